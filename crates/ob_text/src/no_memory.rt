@@ -1,0 +1,18 @@
+use std::alloc::{AllocError, AllocFailed};
+
+/// The one answer of a call that found no memory. Any call that allocates may give it, and no
+/// contract says when it comes.
+#[derive(Clone, Copy, Debug, PartialEq, Eq)]
+pub struct NoMemory;
+
+impl From<AllocError> for NoMemory {
+    fn from(_error: AllocError) -> NoMemory {
+        NoMemory
+    }
+}
+
+impl<T: Drop> From<AllocFailed<T>> for NoMemory {
+    fn from(_failed: AllocFailed<T>) -> NoMemory {
+        NoMemory
+    }
+}
