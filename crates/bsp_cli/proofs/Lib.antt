@@ -1,0 +1,5 @@
+pub mod ProgressLaws
+pub mod RunLaws
+pub mod SessionLaws
+pub mod WordLaws
+pub mod WritingLaws

@@ -1,0 +1,93 @@
+-- How a whole run ends.
+use Rattle.std.proofs.Common.{◌≡◌, ◌⊎◌, inl, inr, ◌<◌, ◌≤◌, ◌++◌, ℕ, ℤ, List, [], ◌∷◌, Bool, true, false, cond, IfSome, Result, Ok, Err, Option, Some, None, refl, sym, ap, ◌∙◌, subst, arith, lit≤, append-nil}
+use Rattle.std.specs.Prelude.{codes}
+use Rattle.bsp_edge.specs.Faults.{Rose}
+use Rattle.bsp_edge.specs.Streams.{Gives}
+use Rattle.session_law.specs.declared.InputEnd.{InputEnd}
+use Rattle.session_law.specs.declared.InputEnd.TheVariants.{Border, Damaged, Failed}
+use Rattle.rpc_peer.specs.Meaning.{meaning}
+use Rattle.rpc_peer.specs.Said.{Said, request, notification, result, failure}
+use Rattle.session_law.specs.Methods.{is_named}
+use Rattle.session_law.specs.Order.{Event, take, ends, write, end_of}
+use Rattle.session_law.specs.Past.{exit_status, closed_after, status_after}
+use Rattle.bsp_cli.specs.Notes.{GivesPart, Notes, NotedAs, whole, failed, note_for}
+use Rattle.bsp_cli.specs.Session.{Change, EndsFor, Session, Idle}
+use Rattle.bsp_cli.specs.Words.{AskNothing, ServesFolder}
+use Rattle.bsp_cli.specs.Writing.{GivesFront}
+
+-- a note that was written in part
+pub part_given : (old new : Option (List ℕ)) (status : ℕ) → GivesFront old new (note_for status) → GivesPart old new
+part_given old new status gives = record { status = status; part = gives.front; rest = gives.rest; whole = gives.whole; given = gives.given }
+
+-- the notes fit the status that the run ends with
+pub notes_fit : (old new : Option (List ℕ)) (f g owed status : ℕ) → NotedAs old new f g owed status → Notes old new status
+notes_fit old new f g owed status (whole given) =
+    record { whole = λ _. given; part = λ four. record { status = status; part = note_for status; rest = []; whole = sym (append-nil (note_for status)); given = given } }
+notes_fit old new f g owed status (failed part rose) = record { whole = λ other. absurd (other refl); part = λ _. part }
+
+module _ (input output : Change) (taken : ℕ) where
+  -- the session is the same where its note failed
+  pub noted_session : (old new : Option (List ℕ)) (f g owed status : ℕ) → NotedAs old new f g owed status → Session input output owed taken → Session input output status taken
+  noted_session old new f g owed status (whole given) session = session
+  noted_session old new f g owed status (failed part rose) session =
+      record {
+        order = session.order;
+        lawful = session.lawful;
+        read = session.read;
+        consumed = session.consumed;
+        within = session.within;
+        rest = session.rest;
+        frames = session.frames;
+        counts = session.counts;
+        ends_for = session.ends_for;
+        tail = session.tail;
+        put = session.put;
+        cut = session.cut;
+        whole = λ small. absurd (omega arith);
+        settled = λ small. absurd (omega arith);
+        agrees = λ small. absurd (omega arith);
+        no_other = lit≤ tt;
+      }
+
+some_apart : (m n : ℕ) → m < n → Some m ≡ Some n → ⊥
+some_apart m n less same = let equal : m ≡ n = cc in omega arith
+
+left_low : (leaves closed : Bool) → IfSome (cond leaves (Some (cond closed 0 1)) None) (λ status. status ≤ 1)
+left_low true true = lit≤ tt
+left_low true false = lit≤ tt
+left_low false closed = tt
+
+exit_low : (meant : Result Said ℤ) (closed : Bool) → IfSome (exit_status meant closed) (λ status. status ≤ 1)
+exit_low (Ok (request id method params)) closed = tt
+exit_low (Ok (notification method params)) closed = left_low (is_named (codes "build/exit") method) closed
+exit_low (Ok (result id value)) closed = tt
+exit_low (Ok (failure id code text)) closed = tt
+exit_low (Err code) closed = tt
+
+-- only a failed read has the status 3
+failed_end : (order : List Event) → status_after order ≡ Some 3 → end_of order ≡ Some Failed
+failed_end [] three = absurd (cc)
+failed_end (take body ∷ order) three =
+    let low : 3 ≤ 1 = subst (λ found. IfSome found (λ status. status ≤ 1)) three (exit_low (meaning body) (closed_after order)) in
+    absurd (omega arith)
+failed_end (ends Border ∷ order) three = absurd (some_apart 1 3 (omega arith) three)
+failed_end (ends Damaged ∷ order) three = absurd (some_apart 2 3 (omega arith) three)
+failed_end (ends Failed ∷ order) three = refl
+failed_end (write m ∷ order) three = failed_end order three
+
+-- a session that ends with 3 ends so for a failed read
+pub failed_for : (input output : Change) (taken : ℕ) → Session input output 3 taken → Rose input.faults_old input.faults_new
+failed_for input output taken session =
+    let cause = subst (λ how. EndsFor how input session.read session.rest) (failed_end session.order (session.agrees (omega arith))) session.ends_for in
+    cause.1
+
+pub noted_input : (old new : Option (List ℕ)) (f g owed status : ℕ) (input output : Change) (taken : ℕ) → NotedAs old new f g owed status → Session input output owed taken → status ≡ 3
+    → Rose input.faults_old input.faults_new
+noted_input old new f g owed status input output taken (whole given) session three =
+    failed_for input output taken (subst (λ s. Session input output s taken) three session)
+noted_input old new f g owed status input output taken (failed part rose) session three = absurd (omega arith)
+
+-- a sink that failed is the output or the notes
+pub noted_sink : (old new : Option (List ℕ)) (f g owed status h k : ℕ) → NotedAs old new f g owed status → (owed ≡ 4 → Rose h k) → status ≡ 4 → Rose h k ⊎ Rose f g
+noted_sink old new f g owed status h k (whole given) rose four = inl (rose four)
+noted_sink old new f g owed status h k (failed part risen) rose four = inr risen

@@ -1,0 +1,250 @@
+-- How a session ends.
+use Rattle.std.proofs.Common.{◌≡◌, ◌≢◌, ◌⊎◌, inl, inr, ◌+◌, ◌++◌, ◌<◌, ◌≤◌, ℕ, List, [], ◌∷◌, length, take, flat_map, Option, Some, None, IfSome, refl, sym, ap, ◌∙◌, subst, lit≤, arith, append_assoc, append-nil, length-append}
+use Rattle.std.proofs.lemmas.List.{take-append-le}
+use Rattle.bsp_edge.specs.Faults.{Rose}
+use Rattle.bsp_edge.specs.Streams.{Takes, Gives}
+use Rattle.rpc_frame.specs.Frames.{BeginsWith, HasNoFrame, FramesTo, Frames, IsSound, IsBroken, Waiting}
+use Rattle.rpc_frame.proofs.FrameLaws.{nil_no_frame, broken_front, broken_rest, broken_not_sound}
+use Rattle.session_law.specs.declared.InputEnd.{InputEnd}
+use Rattle.session_law.specs.declared.InputEnd.TheVariants.{Border, Damaged, Failed}
+use Rattle.session_law.specs.Lawful.{IsSettled, text_of}
+use Rattle.session_law.specs.Order.{Event, ends, takes_of, writes_of, end_of}
+use Rattle.session_law.specs.Past.{status_after, end_status}
+use Rattle.rpc_peer.specs.Said.{Said}
+use Rattle.session_core.specs.Standing.{StandsFor, onto, IsQuiet, IsAlive, status_of}
+use Rattle.session_core.specs.declared.session.Core.{Core}
+use Rattle.session_core.proofs.StandingLaws.{stood_lawful, known, takes_of-onto, end_of-onto, status_after-onto, status_within}
+use Rattle.bsp_cli.specs.Progress.{Progress, Stopped, EndsBy, IsOut, Finishes, ended, halted, HasEnded, MayEnd, fed}
+use Rattle.bsp_cli.specs.Session.{Change, Counts, EndsFor, HasNoMore, IsCut, IsDamage, Session}
+use Rattle.bsp_cli.specs.Writing.{Acts, HaltsAt, status_of_stop}
+use Rattle.bsp_cli.specs.declared.stop.Stop.{Stop}
+use Rattle.bsp_cli.specs.declared.stop.Stop.TheVariants.{Sink, NoMemory}
+use Rattle.bsp_edge.proofs.StreamLaws.{takes_nothing, gives_nothing}
+use Rattle.bsp_cli.proofs.ProgressLaws.{written_end}
+
+-- ---- the frames through the last that was acted on
+
+record Split (bytes : List ℕ) (bodies : List (List ℕ)) (rest : List ℕ) : Type 0 where
+  front : List ℕ
+  whole : bytes ≡ front ++ rest
+  frames : FramesTo front bodies []
+
+split : (bytes : List ℕ) (bodies : List (List ℕ)) (rest : List ℕ) → FramesTo bytes bodies rest → Split bytes bodies rest
+split bytes [] rest frames = record { front = []; whole = frames; frames = refl }
+split bytes (body ∷ bodies) rest frames =
+    let behind = split frames.after bodies rest frames.others in
+    record {
+      front = frames.begins.frame ++ behind.front;
+      whole = frames.begins.whole ∙ (ap (λ after. frames.begins.frame ++ after) behind.whole ∙ sym (append_assoc frames.begins.frame behind.front rest));
+      frames = record { after = behind.front; begins = record { frame = frames.begins.frame; «is» = frames.begins.«is»; whole = refl }; others = behind.frames };
+    }
+
+take_front : (front rest : List ℕ) → take (length front) (front ++ rest) ≡ front
+take_front [] rest = refl
+take_front (b ∷ front) rest = ap (λ more. b ∷ more) (take_front front rest)
+
+front_taken : (front rest bytes : List ℕ) (n : ℕ) → bytes ≡ front ++ rest → length bytes ≡ n + length rest → take n bytes ≡ front
+front_taken front rest bytes n whole count =
+    let same : n ≡ length front = omega (arith, ap length whole, length-append front rest) in
+    rw (whole, same) (take_front front rest)
+
+all_taken : (bytes : List ℕ) → take (length bytes) bytes ≡ bytes
+all_taken [] = refl
+all_taken (b ∷ bytes) = ap (λ rest. b ∷ rest) (all_taken bytes)
+
+-- the bytes through the last frame acted on are frames and nothing more
+taken_frames : (read : List ℕ) (bodies : List (List ℕ)) (rest : List ℕ) (n : ℕ) → FramesTo read bodies rest → length read ≡ n + length rest → Frames (take n read) bodies []
+taken_frames read bodies rest n frames count =
+    let parts = split read bodies rest frames in
+    record { frames = rw (front_taken parts.front rest read n parts.whole count) parts.frames; none = nil_no_frame }
+
+status_small : (how : InputEnd) → end_status how ≤ 3
+status_small Border = lit≤ tt
+status_small Damaged = lit≤ tt
+status_small Failed = lit≤ tt
+
+-- ---- the three ways
+
+module _ (left0 left given0 given : Option (List ℕ)) (in_old in_new out_old out_new : ℕ) where
+  abbrev input : Change
+  input = record { old = left0; new = left; faults_old = in_old; faults_new = in_new }
+
+  abbrev output : Change
+  output = record { old = given0; new = given; faults_old = out_old; faults_new = out_new }
+
+  -- the status of a session that took an exit
+  pub exits_low : (core : Core) (stream : Waiting) (status : ℕ) → Progress core stream left0 left given0 given → HasEnded core (Some status) → status ≤ 3
+  exits_low core stream status so end =
+      subst (λ s. IfSome s (λ n. n ≤ 3)) ((known core so.order end.quiet end.alive so.stands).status_is ∙ end.status_is) (status_within so.order)
+
+  -- the session took an exit
+  pub session_exits : (core : Core) (stream : Waiting) (status : ℕ) → Progress core stream left0 left given0 given → HasEnded core (Some status) → Session input output status stream.given_end
+  session_exits core stream status so end =
+      let knows = known core so.order end.quiet end.alive so.stands in
+      let status_is = knows.status_is ∙ end.status_is in
+      let small : status ≤ 3 = subst (λ s. IfSome s (λ n. n ≤ 3)) status_is (status_within so.order) in
+      record {
+        order = so.order;
+        lawful = stood_lawful core so.order so.stands;
+        read = so.read;
+        consumed = so.consumed;
+        within = omega (arith, so.count);
+        rest = [];
+        frames = taken_frames so.read (takes_of so.order) stream.bytes stream.given_end so.frames so.count;
+        counts = rw so.unended refl;
+        ends_for = rw so.unended tt;
+        tail = [];
+        put = subst (λ bytes. Gives given0 given bytes) (sym (append-nil _)) so.put;
+        cut = λ some. absurd (some refl);
+        whole = λ _. refl;
+        settled = λ _. knows.settled;
+        agrees = λ _. status_is;
+        no_other = omega arith;
+      }
+
+  stopped : (given_end status : ℕ) → 4 ≤ status → status ≤ 5 → Stopped given_end left0 left given0 given → Session input output status given_end
+  stopped given_end status low high so =
+      record {
+        order = so.order;
+        lawful = so.lawful;
+        read = so.read;
+        consumed = so.consumed;
+        within = omega (arith, so.count);
+        rest = [];
+        frames = taken_frames so.read (takes_of so.order) so.waiting given_end so.frames so.count;
+        counts = rw so.unended refl;
+        ends_for = rw so.unended tt;
+        tail = so.tail;
+        put = so.put;
+        cut = so.cut;
+        whole = λ small. absurd (omega arith);
+        settled = λ small. absurd (omega arith);
+        agrees = λ small. absurd (omega arith);
+        no_other = high;
+      }
+
+  -- the session had to stop before an end of its input
+  pub session_stops : (given_end : ℕ) (stop : Stop) → Stopped given_end left0 left given0 given → Session input output (status_of_stop stop) given_end
+  session_stops given_end Sink so = stopped given_end 4 (lit≤ tt) (lit≤ tt) so
+  session_stops given_end NoMemory so = stopped given_end 5 (lit≤ tt) (lit≤ tt) so
+
+  module _ (c d : Core) (stream : Waiting) (how : InputEnd) (middle : Option (List ℕ)) (so : Progress c stream left0 left given0 middle) (drained : HasNoFrame stream.bytes)
+      (cause : EndsFor (Some how) input so.read stream.bytes) where
+    ended_frames : (messages : List Said) → Frames (take (fed stream) so.read) (takes_of (onto messages (ends how ∷ so.order))) stream.bytes
+    ended_frames messages =
+        record {
+          frames = rw (takes_of-onto messages (ends how ∷ so.order), ← so.count, all_taken so.read) so.frames;
+          none = drained;
+        }
+
+    ends_well : Acts c d (ends how) middle given → IsQuiet d → IsAlive d → Session input output (end_status how) (fed stream)
+    ends_well acts quiet alive =
+        let order = onto acts.messages (ends how ∷ so.order) in
+        let knows = known d order quiet alive (acts.stands so.order so.stands) in
+        let ended = end_of-onto acts.messages (ends how ∷ so.order) in
+        let status_is = status_after-onto acts.messages (ends how ∷ so.order) in
+        let small : end_status how ≤ 3 = status_small how in
+        record {
+          order = order;
+          lawful = stood_lawful d order (acts.stands so.order so.stands);
+          read = so.read;
+          consumed = so.consumed;
+          within = omega (arith, so.count);
+          rest = stream.bytes;
+          frames = ended_frames acts.messages;
+          counts = rw ended (sym so.count);
+          ends_for = rw ended cause;
+          tail = [];
+          put = written_end acts.messages so.order how given0 middle given [] so.put (subst (λ bytes. Gives middle given bytes) (sym (append-nil _)) acts.put);
+          cut = λ some. absurd (some refl);
+          whole = λ _. refl;
+          settled = λ _. knows.settled;
+          agrees = λ _. status_is;
+          no_other = omega arith;
+        }
+
+    ends_stopped : (status : ℕ) → 4 ≤ status → status ≤ 5 → HaltsAt c (ends how) middle given → Session input output status (fed stream)
+    ends_stopped status low high halts =
+        let ended = end_of-onto halts.messages (ends how ∷ so.order) in
+        record {
+          order = onto halts.messages (ends how ∷ so.order);
+          lawful = halts.lawful so.order so.stands;
+          read = so.read;
+          consumed = so.consumed;
+          within = omega (arith, so.count);
+          rest = stream.bytes;
+          frames = ended_frames halts.messages;
+          counts = rw ended (sym so.count);
+          ends_for = rw ended cause;
+          tail = halts.tail;
+          put = written_end halts.messages so.order how given0 middle given halts.tail so.put halts.put;
+          cut = halts.cut;
+          whole = λ small. absurd (omega arith);
+          settled = λ small. absurd (omega arith);
+          agrees = λ small. absurd (omega arith);
+          no_other = high;
+        }
+
+    -- the session was told how its input ended
+    pub session_ends : (status : ℕ) → Finishes c d how middle given status → Session input output status (fed stream)
+    session_ends status (ended acts quiet alive) = ends_well acts quiet alive
+    session_ends status (halted Sink halts) = ends_stopped 4 (lit≤ tt) (lit≤ tt) halts
+    session_ends status (halted NoMemory halts) = ends_stopped 5 (lit≤ tt) (lit≤ tt) halts
+
+-- ---- why the input ended
+
+has_more : (stream : Waiting) (input : Change) (read : List ℕ) → length read ≡ fed stream → IsOut stream input.new → HasNoMore input read
+has_more stream input read count (inl dry) = inl dry
+has_more stream input read count (inr limit) = inr (count ∙ limit)
+
+damage : (stream : Waiting) (input : Change) (read : List ℕ) (bodies : List (List ℕ)) → FramesTo read bodies stream.bytes → length read ≡ fed stream
+    → IsBroken stream.bytes ⊎ ((stream.bytes ≢ []) × IsOut stream input.new) → IsDamage input read stream.bytes
+damage stream input read bodies frames count (inl broken) = inl (broken_front read bodies stream.bytes frames broken)
+damage stream input read bodies frames count (inr out) = inr (out.0, has_more stream input read count out.1)
+
+pub ends_for : (how : InputEnd) (stream : Waiting) (input : Change) (read : List ℕ) (bodies : List (List ℕ)) → FramesTo read bodies stream.bytes → length read ≡ fed stream
+    → EndsBy how stream input → EndsFor (Some how) input read stream.bytes
+ends_for Border stream input read bodies frames count cause = (cause.0, has_more stream input read count cause.1)
+ends_for Damaged stream input read bodies frames count cause = damage stream input read bodies frames count cause
+ends_for Failed stream input read bodies frames count cause =
+    (λ broken. broken_not_sound stream.bytes (broken_rest read bodies stream.bytes frames broken) cause.0, cause.1)
+
+-- ---- at the start
+
+pub starts : (core : Core) (stream : Waiting) (left given : Option (List ℕ)) → StandsFor core [] → stream ≡ record { bytes = []; given_end = 0 } → Progress core stream left left given given
+starts core stream left given stands new =
+    rw new (record {
+      order = [];
+      stands = stands;
+      unended = refl;
+      read = [];
+      consumed = takes_nothing left;
+      frames = refl;
+      count = refl;
+      put = gives_nothing given;
+    })
+
+-- nothing was read or written, for want of memory
+pub session_idle : (left given : Option (List ℕ)) (in_faults out_faults : ℕ)
+    → Session (record { old = left; new = left; faults_old = in_faults; faults_new = in_faults }) (record { old = given; new = given; faults_old = out_faults; faults_new = out_faults }) 5 0
+session_idle left given in_faults out_faults =
+    stopped left left given given in_faults in_faults out_faults out_faults 0 5 (lit≤ tt) (lit≤ tt) (record {
+      order = [];
+      lawful = record { each = tt };
+      unended = refl;
+      read = [];
+      consumed = takes_nothing left;
+      waiting = [];
+      frames = refl;
+      count = refl;
+      tail = [];
+      put = gives_nothing given;
+      cut = λ some. absurd (some refl);
+    })
+
+-- the cause of an end tells of what is left and of the faults, and not of what was left
+pub same_cause : (how : InputEnd) (stream : Waiting) (old other new : Option (List ℕ)) (f g h : ℕ) → g ≡ f
+    → EndsBy how stream (record { old = old; new = new; faults_old = g; faults_new = h }) → EndsBy how stream (record { old = other; new = new; faults_old = f; faults_new = h })
+same_cause Border stream old other new f g h same cause = cause
+same_cause Damaged stream old other new f g h same cause = cause
+same_cause Failed stream old other new f g h same cause = rw (← same) cause

@@ -1,0 +1,96 @@
+-- How what is written piece by piece, or message by message, joins.
+use Rattle.std.proofs.Common.{◌≡◌, ◌≢◌, ◌++◌, ◌<◌, ◌≤◌, ℕ, List, [], ◌∷◌, length, take, drop, flat_map, Option, Some, None, Err, refl, sym, ap, ◌∙◌, subst, arith, append_assoc, append-nil}
+use Rattle.std.proofs.lemmas.List.{take-append-drop}
+use Rattle.bsp_edge.specs.Streams.{Gives}
+use Rattle.bsp_edge.specs.Writing.{GivesFront as TookFront}
+use Rattle.bsp_edge.proofs.StreamLaws.{gives_append, gives_nothing}
+use Rattle.rpc_peer.specs.Said.{Said}
+use Rattle.session_law.specs.Lawful.{Lawful, IsFramed, text_of}
+use Rattle.session_law.specs.Order.{Event, write}
+use Rattle.session_core.specs.Standing.{StandsFor, onto}
+use Rattle.session_core.specs.declared.session.Core.{Core}
+use Rattle.session_core.proofs.StandingLaws.{stood_lawful, onto-push}
+use Rattle.bsp_cli.specs.Session.{IsCut}
+use Rattle.bsp_cli.specs.declared.stop.Stop.{Stop}
+use Rattle.bsp_cli.specs.declared.stop.Stop.TheVariants.{Sink, NoMemory}
+use Rattle.bsp_cli.specs.Writing.{Acts, Flushes, GivesFront, GivesSoFar, Halts, HaltsAt, Sends}
+
+pub starts : (given : Option (List ℕ)) (bytes : List ℕ) → GivesSoFar given given bytes bytes
+starts given bytes = record { front = []; whole = refl; given = gives_nothing given }
+
+pub goes_on : (a b c : Option (List ℕ)) (bytes rest : List ℕ) (count : ℕ) → GivesSoFar a b bytes rest → TookFront b c rest count → GivesSoFar a c bytes (drop count rest)
+goes_on a b c bytes rest count so took =
+    record { front = so.front ++ take count rest; whole = so.whole ∙ (ap (λ r. so.front ++ r) (sym (take-append-drop count rest)) ∙ sym (append_assoc so.front (take count rest) (drop count rest))); given = gives_append a b c so.front (take count rest) so.given took.given }
+
+pub breaks : (a b : Option (List ℕ)) (bytes rest : List ℕ) → GivesSoFar a b bytes rest → 0 < length rest → GivesFront a b bytes
+breaks a b bytes rest so more = record { front = so.front; rest = rest; more = more; whole = so.whole; given = so.given }
+
+pub ends : (a b : Option (List ℕ)) (bytes rest : List ℕ) → GivesSoFar a b bytes rest → rest ≡ [] → Gives a b bytes
+ends a b bytes rest so none = subst (λ all. Gives a b all) (sym (so.whole ∙ (ap (λ r. so.front ++ r) none ∙ append-nil so.front))) so.given
+
+-- ---- messages
+
+pub flat_map-push : (messages : List Said) (m : Said) → flat_map text_of (messages ++ m ∷ []) ≡ flat_map text_of messages ++ text_of m
+flat_map-push [] m = append-nil (text_of m)
+flat_map-push (first ∷ messages) m = ap (λ r. text_of first ++ r) (flat_map-push messages m) ∙ sym (append_assoc (text_of first) (flat_map text_of messages) (text_of m))
+
+pub flushes_start : (core : Core) (given : Option (List ℕ)) → Flushes core core given given
+flushes_start core given = record { messages = []; stands = λ order stands. stands; put = gives_nothing given }
+
+module _ (b c d : Core) (f g h : Option (List ℕ)) (m : Said) (so : Flushes b c f g) where
+  -- one more message was written
+  pub flushes_more : ((order : List Event) → StandsFor c order → StandsFor d (write m ∷ order)) → Gives g h (text_of m) → Flushes b d f h
+  flushes_more next put =
+      record {
+        messages = so.messages ++ m ∷ [];
+        stands = λ order stands. subst (λ behind. StandsFor d behind) (sym (onto-push so.messages m order)) (next (onto so.messages order) (so.stands order stands));
+        put = subst (λ bytes. Gives f h bytes) (sym (flat_map-push so.messages m)) (gives_append f g h (flat_map text_of so.messages) (text_of m) so.put put);
+      }
+
+  -- a message was written in part
+  pub halts_inside : IsFramed m → GivesFront g h (text_of m) → Halts b f h
+  halts_inside framed put =
+      record {
+        messages = so.messages;
+        tail = put.front;
+        lawful = λ order stands. stood_lawful c (onto so.messages order) (so.stands order stands);
+        put = gives_append f g h (flat_map text_of so.messages) put.front so.put put.given;
+        cut = λ _. record { message = m; framed = framed; rest = put.rest; more = put.more; whole = put.whole };
+      }
+
+  -- a message was not written
+  pub halts_before : h ≡ g → Halts b f h
+  halts_before same =
+      record {
+        messages = so.messages;
+        tail = [];
+        lawful = λ order stands. stood_lawful c (onto so.messages order) (so.stands order stands);
+        put = subst (λ last. Gives f last (flat_map text_of so.messages ++ [])) (sym same) (subst (λ bytes. Gives f g bytes) (sym (append-nil (flat_map text_of so.messages))) so.put);
+        cut = λ some. absurd (some refl);
+      }
+
+  -- whatever became of a message that wasn't written
+  pub halts_by : (stop : Stop) → IsFramed m → Sends g h (text_of m) (Err stop) → Halts b f h
+  halts_by Sink framed sends = halts_inside framed sends
+  halts_by NoMemory framed sends = halts_before sends
+
+-- ---- events
+
+module _ (c d e : Core) (f g : Option (List ℕ)) (event : Event) (next : (order : List Event) → StandsFor c order → StandsFor d (event ∷ order)) where
+  pub acts_by : Flushes d e f g → Acts c e event f g
+  acts_by so = record { messages = so.messages; stands = λ order stands. so.stands (event ∷ order) (next order stands); put = so.put }
+
+  pub halts_at : Halts d f g → HaltsAt c event f g
+  halts_at so =
+      record { messages = so.messages; tail = so.tail; lawful = λ order stands. so.lawful (event ∷ order) (next order stands); put = so.put; cut = so.cut }
+
+-- the core found no memory at the event
+pub halts_lost : (c d : Core) (given : Option (List ℕ)) (event : Event) → ((order : List Event) → StandsFor c order → StandsFor d (event ∷ order)) → HaltsAt c event given given
+halts_lost c d given event next =
+    record {
+      messages = [];
+      tail = [];
+      lawful = λ order stands. stood_lawful d (event ∷ order) (next order stands);
+      put = gives_nothing given;
+      cut = λ some. absurd (some refl);
+    }

@@ -1,0 +1,55 @@
+use Rattle.std.proofs.Common.{◌≡◌, ◌∙◌, ◌∷◌, ℕ, List, Option, subst, sym, rules}
+use Rattle.rpc_frame.specs.Frames.{BeginsWith}
+use Rattle.session_law.specs.Order.{take}
+use Rattle.session_core.specs.Standing.{onto}
+use Rattle.bsp_cli.specs.Progress.{Progress}
+use Rattle.bsp_cli.proofs.ProgressLaws.{progress_acts, stopped_at, stopped_here, sound_behind, broken_behind}
+use Rattle.bsp_cli.proofs.serve.act_on_frames.Goals as goal
+
+pub returns-in-Err-clause-stopped : goal.returns-in-Err-clause-stopped
+returns-in-Err-clause-stopped g c = λ left0 left given0 so.
+    let here = stopped_here c.frames.core c.frames.decoder left0 left given0 _ (c.frames.invariant.progress left0 left given0 so) in
+    rw c.in-Err.ensures.err here
+
+pub returns-in-Ok-Some-act-clause-progress : goal.returns-in-Ok-Some-act-clause-progress
+returns-in-Ok-Some-act-clause-progress g c = λ left0 left given0 so.
+    let begins = rw (c.in-Ok-Some.field-0-is, ← c.as_slice.ensures.value) at c.in-Ok-Some.ensures.some in
+    progress_acts c.frames.core c.act.new.core c.frames.decoder c.next_body.new.self c.as_slice.result.now left0 left given0 _ _ begins c.in-Ok-Some.ensures.count
+    (c.frames.invariant.progress left0 left given0 so) c.in-Ok-Some-act.ensures.acts
+
+pub returns-in-Ok-Some-act-clause-sound : goal.returns-in-Ok-Some-act-clause-sound
+returns-in-Ok-Some-act-clause-sound g c = λ sound.
+    let begins = rw c.in-Ok-Some.field-0-is at c.in-Ok-Some.ensures.some in
+    sound_behind c.frames.decoder.bytes c.in-Ok-Some.body.items c.next_body.new.self.bytes begins (c.frames.invariant.sound sound)
+
+pub returns-in-Ok-Some-act-clause-broken : goal.returns-in-Ok-Some-act-clause-broken
+returns-in-Ok-Some-act-clause-broken g c = λ broken.
+    let begins = rw c.in-Ok-Some.field-0-is at c.in-Ok-Some.ensures.some in
+    broken_behind c.frames.decoder.bytes c.in-Ok-Some.body.items c.next_body.new.self.bytes begins (c.frames.invariant.broken broken)
+
+pub returns-in-Err-act-clause-stopped : goal.returns-in-Err-act-clause-stopped
+returns-in-Err-act-clause-stopped g c = λ left0 left given0 so.
+    let begins = rw (c.in-Ok-Some.field-0-is, ← c.as_slice.ensures.value) at c.in-Ok-Some.ensures.some in
+    stopped_at c.frames.core c.act.new.core c.frames.decoder c.next_body.new.self c.as_slice.result.now left0 left given0 _ _ begins c.in-Ok-Some.ensures.count
+    (c.frames.invariant.progress left0 left given0 so) c.in-Err-act.ensures.halts
+
+pub frames-preserved : goal.frames-preserved
+frames-preserved g c =
+    let before = c.frames.invariant in
+    let begins = rw (c.in-Ok-Some.field-0-is, ← c.as_slice.ensures.value) at c.in-Ok-Some.ensures.some in
+    let acts = c.in-Ok-None-act.ensures.acts in
+    record {
+      ready = record {
+        quiet = c.in-Ok-None-act.ensures.quiet;
+        alive = c.in-Ok-None-act.ensures.alive;
+        running = rw c.in-Ok-None-act.field-0-is at c.in-Ok-None-act.ensures.status;
+      };
+      stood = (onto acts.messages (take c.as_slice.result.now ∷ before.stood.0), acts.stands before.stood.0 before.stood.1);
+      progress = λ left0 left given0 so.
+          progress_acts c.frames.core c.act.new.core c.frames.decoder c.next_body.new.self c.as_slice.result.now left0 left given0 _ _ begins c.in-Ok-Some.ensures.count
+          (before.progress left0 left given0 so) acts;
+      sound = λ sound. sound_behind c.frames.decoder.bytes c.as_slice.result.now c.next_body.new.self.bytes begins (before.sound sound);
+      broken = λ broken. broken_behind c.frames.decoder.bytes c.as_slice.result.now c.next_body.new.self.bytes begins (before.broken broken);
+      count = c.in-Ok-Some.ensures.count ∙ before.count;
+      same = c.in-Ok-None-act.ensures.same (λ h. cc) ∙ before.same;
+    }

@@ -1,0 +1,22 @@
+use Rattle.std.proofs.Common.{◌≡◌, ℕ, List, length, Option}
+use Rattle.rpc_frame.specs.Frames.{IsSound, IsBroken}
+use Rattle.session_law.specs.Order.{Event}
+use Rattle.session_core.specs.Standing.{StandsFor}
+use Rattle.bsp_cli.specs.Progress.{IsReady, Progress, fed}
+use Rattle.bsp_cli.proofs.serve.act_on_frames.Given as goal
+
+abbrev pub invariant-frames : goal.invariant-frames
+invariant-frames g l =
+    record {
+      ready : IsReady l.core;
+      stood : (order : List Event) × StandsFor l.core order;
+      progress : (left0 left given0 : Option (List ℕ)) → Progress l.initial.core l.initial.decoder left0 left given0 (g.K.Sink.given l.initial.output)
+          → Progress l.core l.decoder left0 left given0 (g.K.Sink.given l.output);
+      sound : IsSound l.initial.decoder.bytes → IsSound l.decoder.bytes;
+      broken : IsBroken l.initial.decoder.bytes → IsBroken l.decoder.bytes;
+      count : fed l.decoder ≡ fed l.initial.decoder;
+      same : g.K.Sink.faults l.output ≡ g.K.Sink.faults l.initial.output;
+    }
+
+abbrev pub decreases-frames : goal.decreases-frames
+decreases-frames g l = length l.decoder.bytes

@@ -1,0 +1,5 @@
+pub mod Words
+pub mod Notes
+pub mod Session
+pub mod Writing
+pub mod Progress

@@ -1,0 +1,103 @@
+-- How far a session has come.
+use Rattle.std.specs.Prelude.{◌≡◌, ◌≢◌, ◌⊎◌, ◌+◌, ◌++◌, ◌<◌, ℕ, List, [], length, flat_map, Option, Some, None}
+use Rattle.bsp_edge.specs.Faults.{Rose}
+use Rattle.bsp_edge.specs.Streams.{Takes, Gives, IsDry}
+use Rattle.rpc_frame.specs.Frames.{FramesTo, HasNoFrame, IsBroken, IsSound, Waiting}
+use Rattle.rpc_frame.specs.declared.TheConstants.{STREAM_LIMIT}
+use Rattle.session_law.specs.declared.InputEnd.{InputEnd}
+use Rattle.session_law.specs.declared.InputEnd.TheVariants.{Border, Damaged, Failed}
+use Rattle.session_law.specs.Lawful.{Lawful, text_of}
+use Rattle.session_law.specs.Order.{Event, ends, takes_of, writes_of, end_of}
+use Rattle.session_law.specs.Past.{end_status}
+use Rattle.session_core.specs.Standing.{StandsFor, IsQuiet, IsAlive, status_of}
+use Rattle.session_core.specs.declared.session.Core.{Core}
+use Rattle.bsp_cli.specs.Session.{Change, IsCut}
+use Rattle.bsp_cli.specs.Writing.{Acts, HaltsAt, status_of_stop}
+use Rattle.bsp_cli.specs.declared.stop.Stop.{Stop}
+
+-- the core may be given the next event
+pub record IsReady (core : Core) : Type 0 where
+  pub quiet : IsQuiet core
+  pub alive : IsAlive core
+  pub running : status_of core ≡ None
+
+-- how many bytes of its stream a decoder was fed
+abbrev pub fed : Waiting → ℕ
+fed stream = stream.given_end + length stream.bytes
+
+-- The bytes read so far are the frames that the core took and then those that wait, and the bytes
+-- written so far are the core's writes.
+pub record Progress (core : Core) (stream : Waiting) (left0 left given0 given : Option (List ℕ)) : Type 0 where
+  pub order : List Event
+  pub stands : StandsFor core order
+  pub unended : end_of order ≡ None
+  pub read : List ℕ
+  pub consumed : Takes left0 left read
+  pub frames : FramesTo read (takes_of order) stream.bytes
+  pub count : length read ≡ fed stream
+  pub put : Gives given0 given (flat_map text_of (writes_of order))
+
+-- the same, once the session had to stop before an end of its input
+pub record Stopped (given_end : ℕ) (left0 left given0 given : Option (List ℕ)) : Type 0 where
+  pub order : List Event
+  pub lawful : Lawful order
+  pub unended : end_of order ≡ None
+  pub read : List ℕ
+  pub consumed : Takes left0 left read
+  pub waiting : List ℕ
+  pub frames : FramesTo read (takes_of order) waiting
+  pub count : length read ≡ given_end + length waiting
+  pub tail : List ℕ
+  pub put : Gives given0 given (flat_map text_of (writes_of order) ++ tail)
+  pub cut : tail ≢ [] → IsCut tail
+
+-- ---- the next piece
+
+-- a piece was taken from the input, and the decoder has it
+pub record Feeds (old new : Waiting) (left left_new : Option (List ℕ)) : Type 0 where
+  pub piece : List ℕ
+  pub taken : Takes left left_new piece
+  pub stream : new ≡ record old { bytes = old.bytes ++ piece }
+
+-- a piece was taken from the input, and the decoder has none of it
+pub record Loses (old new : Waiting) (left left_new : Option (List ℕ)) : Type 0 where
+  pub piece : List ℕ
+  pub taken : Takes left left_new piece
+  pub stream : new ≡ old
+
+-- nothing more is left of the input, or its limit is reached
+abbrev pub IsOut : Waiting → Option (List ℕ) → Type 0
+IsOut stream left = IsDry left ⊎ (fed stream ≡ STREAM_LIMIT)
+
+-- why the input is found to have ended, by the bytes that wait
+abbrev pub EndsBy : InputEnd → Waiting → Change → Type 0
+EndsBy Border stream input = (stream.bytes ≡ []) × IsOut stream input.new
+EndsBy Damaged stream input = IsBroken stream.bytes ⊎ ((stream.bytes ≢ []) × IsOut stream input.new)
+EndsBy Failed stream input = IsSound stream.bytes × Rose input.faults_old input.faults_new
+
+-- ---- the next turn
+
+-- the loop may go on: more was fed, no frame waits, and a list of frames can begin so
+pub record MayGoOn (core : Core) (stream : Waiting) (fed_before faults_old faults_new : ℕ) : Type 0 where
+  pub ready : IsReady core
+  pub drained : HasNoFrame stream.bytes
+  pub sound : IsSound stream.bytes
+  pub more : fed_before < fed stream
+  pub same : faults_new ≡ faults_old
+
+-- the core took an exit, and owes nothing more
+pub record HasEnded (core : Core) (status : Option ℕ) : Type 0 where
+  pub quiet : IsQuiet core
+  pub alive : IsAlive core
+  pub status_is : status_of core ≡ status
+
+-- the core may be told how the input ended
+pub record MayEnd (core : Core) (stream : Waiting) (how : InputEnd) (input : Change) : Type 0 where
+  pub ready : IsReady core
+  pub drained : HasNoFrame stream.bytes
+  pub cause : EndsBy how stream input
+
+-- the core acted on the end of the input and owes nothing more, or the session had to stop
+pub data Finishes (c d : Core) (how : InputEnd) (old new : Option (List ℕ)) : ℕ → Type 0 where
+  ended : Acts c d (ends how) old new → IsQuiet d → IsAlive d → Finishes c d how old new (end_status how)
+  halted : (stop : Stop) → HaltsAt c (ends how) old new → Finishes c d how old new (status_of_stop stop)

@@ -1,0 +1,78 @@
+-- What `serve` does to its input and its output, whatever they are: the bytes taken and the bytes
+-- written are the takes and the writes of one lawful order, and the status agrees with it.
+use Rattle.std.specs.Prelude.{◌≡◌, ◌≢◌, ◌⊎◌, ◌++◌, ◌≤◌, ◌<◌, ℕ, List, [], length, take, flat_map, Option, Some, None}
+use Rattle.bsp_edge.specs.Faults.{Rose}
+use Rattle.bsp_edge.specs.Streams.{Takes, Gives, IsDry}
+use Rattle.rpc_frame.specs.Frames.{Frames, IsBroken}
+use Rattle.rpc_frame.specs.declared.TheConstants.{STREAM_LIMIT}
+use Rattle.rpc_peer.specs.Said.{Said}
+use Rattle.session_law.specs.declared.InputEnd.{InputEnd}
+use Rattle.session_law.specs.declared.InputEnd.TheVariants.{Border, Damaged, Failed}
+use Rattle.session_law.specs.Lawful.{Lawful, IsFramed, IsSettled, text_of}
+use Rattle.session_law.specs.Order.{Event, takes_of, writes_of, end_of}
+use Rattle.session_law.specs.Past.{status_after}
+
+-- what one source or sink told before a call and behind it
+pub record Change : Type 0 where
+  pub old : Option (List ℕ)
+  pub new : Option (List ℕ)
+  pub faults_old : ℕ
+  pub faults_new : ℕ
+
+-- a proper front of one message of the server
+pub record IsCut (bytes : List ℕ) : Type 0 where
+  pub message : Said
+  pub framed : IsFramed message
+  pub rest : List ℕ
+  pub more : 0 < length rest
+  pub whole : text_of message ≡ bytes ++ rest
+
+-- the input has no more: nothing is left of it, or it reached its limit
+abbrev pub HasNoMore : Change → List ℕ → Type 0
+HasNoMore input read = IsDry input.new ⊎ (length read ≡ STREAM_LIMIT)
+
+-- the damage is in the bytes, or they have no more and end inside a frame
+abbrev pub IsDamage : Change → List ℕ → List ℕ → Type 0
+IsDamage input read rest = IsBroken read ⊎ ((rest ≢ []) × HasNoMore input read)
+
+-- why the input is found to have ended so
+abbrev pub EndsFor : Option InputEnd → Change → List ℕ → List ℕ → Type 0
+EndsFor None input read rest = Unit {0}
+EndsFor (Some Border) input read rest = (rest ≡ []) × HasNoMore input read
+EndsFor (Some Damaged) input read rest = IsDamage input read rest
+EndsFor (Some Failed) input read rest = (IsBroken read → ⊥) × Rose input.faults_old input.faults_new
+
+-- how many of the bytes read count as taken: all of them where the input was found to have ended,
+-- and those through the last frame acted on where it wasn't
+abbrev pub Counts : Option InputEnd → ℕ → List ℕ → List ℕ → Type 0
+Counts None taken read rest = rest ≡ []
+Counts (Some how) taken read rest = taken ≡ length read
+
+pub record Session (input output : Change) (status taken : ℕ) : Type 0 where
+  -- the one order
+  pub order : List Event
+  pub lawful : Lawful order
+  -- its takes are the frames of the bytes taken
+  pub read : List ℕ
+  pub consumed : Takes input.old input.new read
+  pub within : taken ≤ length read
+  pub rest : List ℕ
+  pub frames : Frames (take taken read) (takes_of order) rest
+  pub counts : Counts (end_of order) taken read rest
+  pub ends_for : EndsFor (end_of order) input read rest
+  -- its writes are the bytes written, and at most a proper front of one message more
+  pub tail : List ℕ
+  pub put : Gives output.old output.new (flat_map text_of (writes_of order) ++ tail)
+  pub cut : tail ≢ [] → IsCut tail
+  -- where nothing outside failed: the output is whole, all is answered, and the status fits
+  pub whole : status < 4 → tail ≡ []
+  pub settled : status < 4 → IsSettled order
+  pub agrees : status < 4 → status_after order ≡ Some status
+  pub no_other : status ≤ 5
+
+-- nothing is read and nothing is written
+pub record Idle (input output : Change) (status taken : ℕ) : Type 0 where
+  pub unread : input.new ≡ input.old
+  pub unwritten : output.new ≡ output.old
+  pub no_bytes : taken ≡ 0
+  pub status_is : (status ≡ 6) ⊎ (status ≡ 4)

@@ -1,0 +1,64 @@
+-- What is written on the way of a session.
+use Rattle.std.specs.Prelude.{◌≡◌, ◌≢◌, ◌++◌, ◌<◌, ℕ, List, [], ◌∷◌, length, flat_map, Option, Result, Ok, Err}
+use Rattle.bsp_edge.specs.Streams.{Gives}
+use Rattle.rpc_peer.specs.Said.{Said}
+use Rattle.session_law.specs.Lawful.{Lawful, text_of}
+use Rattle.session_law.specs.Order.{Event}
+use Rattle.session_core.specs.Standing.{StandsFor, onto}
+use Rattle.session_core.specs.declared.session.Core.{Core}
+use Rattle.bsp_cli.specs.Session.{IsCut}
+use Rattle.bsp_cli.specs.declared.stop.Stop.{Stop}
+use Rattle.bsp_cli.specs.declared.stop.Stop.TheVariants.{Sink, NoMemory}
+
+-- the status of a session that stopped
+abbrev pub status_of_stop : Stop → ℕ
+status_of_stop Sink = 4
+status_of_stop NoMemory = 5
+
+-- these bytes were given but for the last of them
+pub record GivesFront (old new : Option (List ℕ)) (bytes : List ℕ) : Type 0 where
+  pub front : List ℕ
+  pub rest : List ℕ
+  pub more : 0 < length rest
+  pub whole : bytes ≡ front ++ rest
+  pub given : Gives old new front
+
+-- the bytes before this rest were given
+pub record GivesSoFar (old new : Option (List ℕ)) (bytes rest : List ℕ) : Type 0 where
+  pub front : List ℕ
+  pub whole : bytes ≡ front ++ rest
+  pub given : Gives old new front
+
+-- the core went from one state to the next by writing messages
+pub record Flushes (c d : Core) (old new : Option (List ℕ)) : Type 0 where
+  pub messages : List Said
+  pub stands : (order : List Event) → StandsFor c order → StandsFor d (onto messages order)
+  pub put : Gives old new (flat_map text_of messages)
+
+-- the core wrote messages, and at most a proper front of the next, when it had to stop
+pub record Halts (c : Core) (old new : Option (List ℕ)) : Type 0 where
+  pub messages : List Said
+  pub tail : List ℕ
+  pub lawful : (order : List Event) → StandsFor c order → Lawful (onto messages order)
+  pub put : Gives old new (flat_map text_of messages ++ tail)
+  pub cut : tail ≢ [] → IsCut tail
+
+-- the core acted on an event, and wrote messages
+pub record Acts (c d : Core) (event : Event) (old new : Option (List ℕ)) : Type 0 where
+  pub messages : List Said
+  pub stands : (order : List Event) → StandsFor c order → StandsFor d (onto messages (event ∷ order))
+  pub put : Gives old new (flat_map text_of messages)
+
+-- the core wrote messages on an event, and at most a proper front of the next, when it had to stop
+pub record HaltsAt (c : Core) (event : Event) (old new : Option (List ℕ)) : Type 0 where
+  pub messages : List Said
+  pub tail : List ℕ
+  pub lawful : (order : List Event) → StandsFor c order → Lawful (onto messages (event ∷ order))
+  pub put : Gives old new (flat_map text_of messages ++ tail)
+  pub cut : tail ≢ [] → IsCut tail
+
+-- what a message became that was sent: given whole, or in part where the sink failed, or not at all
+abbrev pub Sends : Option (List ℕ) → Option (List ℕ) → List ℕ → Result Unit Stop → Type 0
+Sends old new text (Ok done) = Gives old new text
+Sends old new text (Err Sink) = GivesFront old new text
+Sends old new text (Err NoMemory) = new ≡ old

@@ -1,0 +1,113 @@
+ghost use Rattle.std.specs.Prelude.{◌≡◌, ◌≤◌, ◌⊎◌, ℕ, List};
+ghost use Rattle.bsp_edge.specs.Faults.{Rose};
+ghost use Rattle.bsp_cli.specs.Notes.{NotedAs, Notes, note_for};
+ghost use Rattle.bsp_cli.specs.Session.{Idle, Session};
+ghost use Rattle.bsp_cli.specs.Words.{AskNothing, ServesFolder};
+
+use crate::serve::{Ended, serve};
+use crate::words::{Command, Usage, read_words};
+use crate::writing::{SinkFailed, write_all};
+use bsp_edge::{Sink, Source};
+use ob_text::Text;
+use std::alloc::Global;
+
+/// The status of words that ask for nothing that the program does.
+const USAGE: u8 = 6;
+
+/// The status of a run in which a sink failed.
+const SINK: u8 = 4;
+
+/// Runs the program on the words of its command line. The status is 0 where the client exits after
+/// a shutdown that was answered, 1 where it exits or its input ends without one, 2 where its input
+/// is damaged or ends inside a frame, 3 where reading failed, 4 where writing failed, 5 where there
+/// was no memory, and 6 where the words aren't known.
+pub fn run_words<S: Source, K: Sink>(
+    alloc: Global,
+    words: &[Text],
+    input: &mut S,
+    output: &mut K,
+    notes: &mut K,
+) -> Ended
+    // The bytes taken and the bytes written are the takes and the writes of one lawful order.
+    ensures session { (folder : List ℕ) → ServesFolder words.now folder → Session
+        (record {
+          old = S.left input.old;
+          new = S.left input.new;
+          faults_old = S.faults input.old;
+          faults_new = S.faults input.new;
+        })
+        (record {
+          old = K.given output.old;
+          new = K.given output.new;
+          faults_old = K.faults output.old;
+          faults_new = K.faults output.new;
+        })
+        result.status result.taken }
+
+    // Other words read and write nothing.
+    ensures idle { AskNothing words.now → Idle
+        (record {
+          old = S.left input.old;
+          new = S.left input.new;
+          faults_old = S.faults input.old;
+          faults_new = S.faults input.new;
+        })
+        (record {
+          old = K.given output.old;
+          new = K.given output.new;
+          faults_old = K.faults output.old;
+          faults_new = K.faults output.new;
+        })
+        result.status result.taken }
+    ensures usage { result.status ≡ 6 → AskNothing words.now }
+
+    // What is said beside the output, and why a run fails that isn't the client's fault.
+    ensures notes { Notes (K.given notes.old) (K.given notes.new) result.status }
+    ensures input { result.status ≡ 3 → Rose (S.faults input.old) (S.faults input.new) }
+    ensures sink { result.status ≡ 4 → Rose (K.faults output.old) (K.faults output.new)
+        ⊎ Rose (K.faults notes.old) (K.faults notes.new) }
+    ensures known { result.status ≤ 6 }
+{
+    match read_words(words) {
+        Ok(Command::Serve { folder: _ }) => {
+            let ended = serve(alloc, input, output);
+            note(notes, ended)
+        }
+        Err(Usage) => note(
+            notes,
+            Ended {
+                status: USAGE,
+                taken: 0,
+            },
+        ),
+    }
+}
+
+/// Says what belongs to the status, and answers how the run ended then.
+fn note<K: Sink>(notes: &mut K, ended: Ended) -> Ended
+    ensures noted { NotedAs (K.given notes.old) (K.given notes.new) (K.faults notes.old)
+        (K.faults notes.new) ended.status result.status }
+    ensures taken { result.taken ≡ ended.taken }
+{
+    match write_all(notes, note_text(ended.status)) {
+        Ok(()) => ended,
+        Err(SinkFailed) => Ended {
+            status: SINK,
+            taken: ended.taken,
+        },
+    }
+}
+
+/// The note that belongs to a status.
+#[tactic(auto, unfolding(crate::specs::Notes::damaged_note, crate::specs::Notes::failed_note, crate::specs::Notes::usage_note))]
+fn note_text(status: u8) -> &'static [u8]
+    ensures { result.now ≡ note_for status }
+{
+    match status {
+        2 => b"damaged input\n",
+        3 => b"input failed\n",
+        6 =>
+            b"usage: oberon-bsp serve DIR [--workers N] [--record] | client SCRIPT | check | soak N\n",
+        _ => b"",
+    }
+}

@@ -1,0 +1,392 @@
+ghost use Rattle.std.specs.Prelude.{◌≡◌, ◌+◌, ◌<◌, ◌≤◌, ℕ, Bool, true, false, List, [], length, Option, Some, None, Ok, IfOk, OnOk, OnErr, IsErrOf};
+ghost use Rattle.bsp_edge.specs.Faults.{Rose};
+ghost use Rattle.rpc_frame.specs.Frames.{HasNoFrame, IsBroken, IsSound};
+ghost use Rattle.session_law.specs.declared.InputEnd.{InputEnd};
+ghost use Rattle.session_law.specs.Order.{Event, take, ends};
+ghost use Rattle.session_law.specs.Past.{end_status};
+ghost use Rattle.session_core.specs.Standing.{StandsFor, IsAlive, IsQuiet, status_of};
+ghost use Rattle.bsp_cli.specs.Progress.{EndsBy, Feeds, Finishes, HasEnded, IsOut, IsReady, Loses, MayEnd, MayGoOn, Progress, Stopped, fed};
+ghost use Rattle.bsp_cli.specs.Session.{Change, Session};
+ghost use Rattle.bsp_cli.specs.Writing.{Acts, HaltsAt};
+
+use crate::stop::Stop;
+use crate::writing::flush;
+use bsp_edge::{Got, Sink, Source};
+use ob_text::NoMemory;
+use rpc_frame::{Decoder, FeedFault, STREAM_LIMIT};
+use session_core::Core;
+use session_law::InputEnd;
+use std::alloc::Global;
+
+/// The most bytes of one piece of the input.
+const PIECE: usize = 65_536;
+
+/// How a session ended, and how many bytes of its input it acted on.
+#[derive(Clone, Copy, Debug, PartialEq, Eq)]
+pub struct Ended {
+    pub status: u8,
+    pub taken: u64,
+}
+
+/// What one turn of the loop leads to.
+enum Turn {
+    /// The next turn.
+    GoesOn,
+    /// The session took an exit, and has this status.
+    Exits(u8),
+    /// The input is found to have ended.
+    Ends(InputEnd),
+}
+
+/// What was read of the input.
+#[derive(Clone, Copy)]
+enum Fetched {
+    /// A piece, which the decoder has now, and whether a list of frames can begin so.
+    Piece(bool),
+    /// The input is found to have ended.
+    End(InputEnd),
+}
+
+/// Acts on one body, and writes the answers. Answers the status that the session ended with, where
+/// it took an exit.
+fn act<K: Sink>(
+    alloc: Global,
+    core: &mut Core,
+    body: &[u8],
+    output: &mut K,
+    frame: &mut Vec<u8>,
+) -> Result<Option<u8>, Stop>
+    requires ready { IsReady core.old }
+    requires stood { (order : List Event) × StandsFor core.old order }
+    ensures acts { OnOk result (Acts core.old core.new (take body.now)
+        (K.given output.old) (K.given output.new)) }
+    ensures quiet { OnOk result (IsQuiet core.new) }
+    ensures alive { OnOk result (IsAlive core.new) }
+    ensures status { IfOk result (λ status. status_of core.new ≡ status) }
+    ensures halts { OnErr result (HaltsAt core.old (take body.now)
+        (K.given output.old) (K.given output.new)) }
+    ensures sink { IsErrOf result Stop.Sink → Rose (K.faults output.old) (K.faults output.new) }
+    ensures same { (IsErrOf result Stop.Sink → ⊥) → K.faults output.new ≡ K.faults output.old }
+{
+    match core.message(body) {
+        Ok(()) => match flush(alloc, core, output, frame) {
+            Ok(()) => Ok(core.exited()),
+            Err(stop) => Err(stop),
+        },
+        Err(NoMemory) => Err(Stop::NoMemory),
+    }
+}
+
+/// Acts on the end of the input, and writes the answer.
+fn act_on_end<K: Sink>(
+    alloc: Global,
+    core: &mut Core,
+    how: InputEnd,
+    output: &mut K,
+    frame: &mut Vec<u8>,
+) -> Result<(), Stop>
+    requires ready { IsReady core.old }
+    requires stood { (order : List Event) × StandsFor core.old order }
+    ensures acts { OnOk result (Acts core.old core.new (ends how)
+        (K.given output.old) (K.given output.new)) }
+    ensures quiet { OnOk result (IsQuiet core.new) }
+    ensures alive { OnOk result (IsAlive core.new) }
+    ensures halts { OnErr result (HaltsAt core.old (ends how)
+        (K.given output.old) (K.given output.new)) }
+    ensures sink { IsErrOf result Stop.Sink → Rose (K.faults output.old) (K.faults output.new) }
+    ensures same { (IsErrOf result Stop.Sink → ⊥) → K.faults output.new ≡ K.faults output.old }
+{
+    match core.end(how) {
+        Ok(()) => flush(alloc, core, output, frame),
+        Err(NoMemory) => Err(Stop::NoMemory),
+    }
+}
+
+/// Acts on all whole frames that the decoder has, and writes the answers. Answers the status that
+/// the session ended with, where it took an exit.
+fn act_on_frames<K: Sink>(
+    alloc: Global,
+    core: &mut Core,
+    decoder: &mut Decoder,
+    output: &mut K,
+    frame: &mut Vec<u8>,
+) -> Result<Option<u8>, Stop>
+    requires ready { IsReady core.old }
+    requires stood { (order : List Event) × StandsFor core.old order }
+    ensures progress { OnOk result ((left0 left given0 : Option (List ℕ))
+        → Progress core.old decoder.old left0 left given0 (K.given output.old)
+        → Progress core.new decoder.new left0 left given0 (K.given output.new)) }
+    ensures stopped { OnErr result ((left0 left given0 : Option (List ℕ))
+        → Progress core.old decoder.old left0 left given0 (K.given output.old)
+        → Stopped decoder.new.given_end left0 left given0 (K.given output.new)) }
+    ensures quiet { OnOk result (IsQuiet core.new) }
+    ensures alive { OnOk result (IsAlive core.new) }
+    ensures status { IfOk result (λ status. status_of core.new ≡ status) }
+    ensures stood { OnOk result ((order : List Event) × StandsFor core.new order) }
+    ensures drained { result ≡ Ok None → HasNoFrame decoder.new.bytes }
+    ensures sound { OnOk result (IsSound decoder.old.bytes → IsSound decoder.new.bytes) }
+    ensures broken { OnOk result (IsBroken decoder.old.bytes → IsBroken decoder.new.bytes) }
+    ensures fed { fed decoder.new ≡ fed decoder.old }
+    ensures sink { IsErrOf result Stop.Sink → Rose (K.faults output.old) (K.faults output.new) }
+    ensures same { OnOk result (K.faults output.new ≡ K.faults output.old) }
+{
+    'frames: loop {
+        let body = match decoder.next_body() {
+            Ok(Some(body)) => body,
+            Ok(None) => return Ok(None),
+            Err(NoMemory) => return Err(Stop::NoMemory),
+        };
+        match act(alloc, core, body.as_slice(), output, frame) {
+            Ok(None) => {}
+            Ok(Some(status)) => return Ok(Some(status)),
+            Err(stop) => return Err(stop),
+        }
+    }
+}
+
+/// Reads the next piece of the input into `into`, and feeds it to the decoder. `total` counts the
+/// bytes that the decoder was fed.
+fn fetch<S: Source>(
+    input: &mut S,
+    decoder: &mut Decoder,
+    total: &mut u64,
+    into: &mut [u8],
+) -> Result<Fetched, NoMemory>
+    requires total { total.old ≡ fed decoder.old }
+    requires room { 0 < length into.old }
+    requires limit { fed decoder.old + length into.old ≤ STREAM_LIMIT }
+    requires drained { HasNoFrame decoder.old.bytes }
+    requires sound { IsSound decoder.old.bytes }
+    ensures piece { IfOk result (λ fetched. (sound : Bool) → fetched ≡ Fetched.Piece sound
+        → Feeds decoder.old decoder.new (S.left input.old) (S.left input.new)) }
+    ensures some { IfOk result (λ fetched. (sound : Bool) → fetched ≡ Fetched.Piece sound
+        → fed decoder.old < fed decoder.new) }
+    ensures sound { result ≡ Ok (Fetched.Piece true) → IsSound decoder.new.bytes }
+    ensures broken { result ≡ Ok (Fetched.Piece false) → IsBroken decoder.new.bytes }
+    ensures same { IfOk result (λ fetched. (sound : Bool) → fetched ≡ Fetched.Piece sound
+        → S.faults input.new ≡ S.faults input.old) }
+    ensures end { IfOk result (λ fetched. (how : InputEnd) → fetched ≡ Fetched.End how
+        → (decoder.new ≡ decoder.old) × (S.left input.new ≡ S.left input.old)
+        × EndsBy how decoder.old (record {
+          old = S.left input.old;
+          new = S.left input.new;
+          faults_old = S.faults input.old;
+          faults_new = S.faults input.new;
+        })) }
+    ensures lost { OnErr result (Loses decoder.old decoder.new (S.left input.old) (S.left input.new)) }
+    ensures total { total.new ≡ fed decoder.new }
+    ensures within { fed decoder.new ≤ STREAM_LIMIT }
+{
+    match input.read(into) {
+        Got::Bytes(count) => {
+            let fetched = match decoder.feed(into.split_at(count).0) {
+                Ok(()) => Fetched::Piece(true),
+                Err(FeedFault::Damaged) => Fetched::Piece(false),
+                Err(FeedFault::NoMemory) => return Err(NoMemory),
+            };
+            *total += count as u64;
+            Ok(fetched)
+        }
+        Got::End => Ok(Fetched::End(end_of(decoder))),
+        Got::Failed => Ok(Fetched::End(InputEnd::Failed)),
+        Got::Quiet => unreachable!(),
+    }
+}
+
+/// How an input ends that has no more.
+fn end_of(decoder: &Decoder) -> InputEnd
+    requires { HasNoFrame decoder.now.bytes }
+    ensures border { result ≡ InputEnd.Border → decoder.now.bytes ≡ [] }
+    ensures damaged { result ≡ InputEnd.Damaged → decoder.now.bytes ≡ [] → ⊥ }
+    ensures other { result ≡ InputEnd.Failed → ⊥ }
+    ensures cause { (input : Change) → IsOut decoder.now input.new → EndsBy result decoder.now input }
+{
+    if decoder.at_border() {
+        InputEnd::Border
+    } else {
+        InputEnd::Damaged
+    }
+}
+
+/// One turn of the loop: reads a piece, acts on the frames that are whole now, and writes the answers.
+fn take_turn<S: Source, K: Sink>(
+    alloc: Global,
+    core: &mut Core,
+    decoder: &mut Decoder,
+    total: &mut u64,
+    into: &mut [u8],
+    input: &mut S,
+    output: &mut K,
+    frame: &mut Vec<u8>,
+) -> Result<Turn, Stop>
+    requires ready { IsReady core.old }
+    requires stood { (order : List Event) × StandsFor core.old order }
+    requires total { total.old ≡ fed decoder.old }
+    requires room { 0 < length into.old }
+    requires limit { fed decoder.old + length into.old ≤ STREAM_LIMIT }
+    requires drained { HasNoFrame decoder.old.bytes }
+    requires sound { IsSound decoder.old.bytes }
+    ensures progress { OnOk result ((left0 given0 : Option (List ℕ))
+        → Progress core.old decoder.old left0 (S.left input.old) given0 (K.given output.old)
+        → Progress core.new decoder.new left0 (S.left input.new) given0 (K.given output.new)) }
+    ensures stopped { OnErr result ((left0 given0 : Option (List ℕ))
+        → Progress core.old decoder.old left0 (S.left input.old) given0 (K.given output.old)
+        → Stopped decoder.new.given_end left0 (S.left input.new) given0 (K.given output.new)) }
+    ensures goes_on { result ≡ Ok Turn.GoesOn → MayGoOn core.new decoder.new (fed decoder.old)
+        (S.faults input.old) (S.faults input.new) }
+    ensures exits { IfOk result (λ turn. (status : ℕ) → turn ≡ Turn.Exits status
+        → HasEnded core.new (Some status)) }
+    ensures ends { IfOk result (λ turn. (how : InputEnd) → turn ≡ Turn.Ends how
+        → MayEnd core.new decoder.new how (record {
+          old = S.left input.old;
+          new = S.left input.new;
+          faults_old = S.faults input.old;
+          faults_new = S.faults input.new;
+        })) }
+    ensures stood { OnOk result ((order : List Event) × StandsFor core.new order) }
+    ensures total { total.new ≡ fed decoder.new }
+    ensures within { fed decoder.new ≤ STREAM_LIMIT }
+    ensures sink { IsErrOf result Stop.Sink → Rose (K.faults output.old) (K.faults output.new) }
+    ensures same { OnOk result (K.faults output.new ≡ K.faults output.old) }
+{
+    match fetch(input, decoder, total, into) {
+        Ok(Fetched::Piece(sound)) => match act_on_frames(alloc, core, decoder, output, frame) {
+            Ok(Some(status)) => Ok(Turn::Exits(status)),
+            Ok(None) => if sound {
+                Ok(Turn::GoesOn)
+            } else {
+                Ok(Turn::Ends(InputEnd::Damaged))
+            },
+            Err(stop) => Err(stop),
+        },
+        Ok(Fetched::End(how)) => Ok(Turn::Ends(how)),
+        Err(NoMemory) => Err(Stop::NoMemory),
+    }
+}
+
+/// Ends the session as its input ended.
+fn finish<K: Sink>(
+    alloc: Global,
+    core: &mut Core,
+    how: InputEnd,
+    output: &mut K,
+    frame: &mut Vec<u8>,
+) -> u8
+    requires ready { IsReady core.old }
+    requires stood { (order : List Event) × StandsFor core.old order }
+    ensures status { Finishes core.old core.new how (K.given output.old) (K.given output.new) result }
+    ensures sink { result ≡ 4 → Rose (K.faults output.old) (K.faults output.new) }
+{
+    match act_on_end(alloc, core, how, output, frame) {
+        Ok(()) => end_status(how),
+        Err(stop) => stop.status(),
+    }
+}
+
+/// The status of a session whose input ended so.
+fn end_status(how: InputEnd) -> u8
+    ensures { result ≡ end_status how }
+{
+    match how {
+        InputEnd::Border => 1,
+        InputEnd::Damaged => 2,
+        InputEnd::Failed => 3,
+    }
+}
+
+/// Serves a client until it exits, its input ends, or the session has to stop.
+pub fn serve<S: Source, K: Sink>(alloc: Global, input: &mut S, output: &mut K) -> Ended
+    ensures session { Session
+        (record {
+          old = S.left input.old;
+          new = S.left input.new;
+          faults_old = S.faults input.old;
+          faults_new = S.faults input.new;
+        })
+        (record {
+          old = K.given output.old;
+          new = K.given output.new;
+          faults_old = K.faults output.old;
+          faults_new = K.faults output.new;
+        })
+        result.status result.taken }
+    ensures sink { result.status ≡ 4 → Rose (K.faults output.old) (K.faults output.new) }
+{
+    match vec![in alloc; 0u8; PIECE] {
+        Ok(mut buffer) => serve_with(alloc, buffer.as_mut_slice(), input, output),
+        Err(_) => Ended {
+            status: 5,
+            taken: 0,
+        },
+    }
+}
+
+fn serve_with<S: Source, K: Sink>(
+    alloc: Global,
+    buffer: &mut [u8],
+    input: &mut S,
+    output: &mut K,
+) -> Ended
+    requires { 0 < length buffer.old }
+    ensures session { Session
+        (record {
+          old = S.left input.old;
+          new = S.left input.new;
+          faults_old = S.faults input.old;
+          faults_new = S.faults input.new;
+        })
+        (record {
+          old = K.given output.old;
+          new = K.given output.new;
+          faults_old = K.faults output.old;
+          faults_new = K.faults output.new;
+        })
+        result.status result.taken }
+    ensures sink { result.status ≡ 4 → Rose (K.faults output.old) (K.faults output.new) }
+{
+    let mut core = Core::new(alloc);
+    let mut decoder = Decoder::new(alloc);
+    let mut frame = Vec::new(alloc);
+    let mut total = 0u64;
+    'turns: loop {
+        let limit = STREAM_LIMIT - total;
+        if limit == 0 {
+            let how = end_of(&decoder);
+            let status = finish(alloc, &mut core, how, output, &mut frame);
+            return Ended {
+                status,
+                taken: total,
+            };
+        }
+        let room = (buffer.len() as u64).min(limit) as usize;
+        let into = &mut buffer[..room];
+        match take_turn(
+            alloc,
+            &mut core,
+            &mut decoder,
+            &mut total,
+            into,
+            input,
+            output,
+            &mut frame,
+        ) {
+            Ok(Turn::GoesOn) => {}
+            Ok(Turn::Exits(status)) => {
+                let taken = decoder.given_end();
+                return Ended { status, taken };
+            }
+            Ok(Turn::Ends(how)) => {
+                let status = finish(alloc, &mut core, how, output, &mut frame);
+                return Ended {
+                    status,
+                    taken: total,
+                };
+            }
+            Err(stop) => {
+                let taken = decoder.given_end();
+                let status = stop.status();
+                return Ended { status, taken };
+            }
+        }
+    }
+}

@@ -1,0 +1,47 @@
+use ob_text::NoMemory;
+use std::alloc::AllocError;
+
+/// Why a session stops before its input ends.
+#[derive(Clone, Copy, Debug, PartialEq, Eq)]
+pub enum Stop {
+    /// A sink failed.
+    Sink,
+    NoMemory,
+}
+
+impl From<NoMemory> for Stop {
+    ghost use Rattle.std.specs.Prelude.{◌≡◌};
+    ghost use Rattle.bsp_cli.specs.declared.stop.Stop.TheVariants as stops;
+
+    ghost from_gives = { λ _ e. e ≡ stops.NoMemory };
+
+    fn from(_error: NoMemory) -> Stop {
+        Stop::NoMemory
+    }
+}
+
+impl From<AllocError> for Stop {
+    ghost use Rattle.std.specs.Prelude.{◌≡◌};
+    ghost use Rattle.bsp_cli.specs.declared.stop.Stop.TheVariants as stops;
+
+    ghost from_gives = { λ _ e. e ≡ stops.NoMemory };
+
+    fn from(_error: AllocError) -> Stop {
+        Stop::NoMemory
+    }
+}
+
+impl Stop {
+    ghost use Rattle.std.specs.Prelude.{◌≡◌};
+    ghost use Rattle.bsp_cli.specs.Writing.{status_of_stop};
+
+    /// The status that the program then ends with.
+    pub fn status(self) -> u8
+        ensures { result ≡ status_of_stop self }
+    {
+        match self {
+            Stop::Sink => 4,
+            Stop::NoMemory => 5,
+        }
+    }
+}

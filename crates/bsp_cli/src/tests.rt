@@ -1,0 +1,267 @@
+use crate::run::run_words;
+use crate::serve::Ended;
+use bsp_edge::{MemSink, MemSource, Sink, Source};
+use ob_text::Text;
+use std::alloc::{AllocError, Global};
+use std::process::Abort;
+use std::test::Fail;
+
+const INITIALIZE: &[u8] =
+    b"Content-Length: 180\r\n\r\n{\"jsonrpc\":\"2.0\",\"id\":1,\"method\":\"build/initialize\",\"params\":{\"displayName\":\"t\",\"version\":\"1\",\"bspVersion\":\"2.2.0\",\"rootUri\":\"file:///w\",\"capabilities\":{\"languageIds\":[\"oberon\"]}}}";
+
+const SHUTDOWN: &[u8] =
+    b"Content-Length: 50\r\n\r\n{\"jsonrpc\":\"2.0\",\"id\":2,\"method\":\"build/shutdown\"}";
+
+const EXIT: &[u8] = b"Content-Length: 39\r\n\r\n{\"jsonrpc\":\"2.0\",\"method\":\"build/exit\"}";
+
+const INITIALIZED: &[u8] =
+    b"Content-Length: 327\r\n\r\n{\"id\":1,\"jsonrpc\":\"2.0\",\"result\":{\"bspVersion\":\"2.2.0\",\"capabilities\":{\"buildTargetChangedProvider\":true,\"canReload\":true,\"compileProvider\":{\"languageIds\":[\"oberon\"]},\"inverseSourcesProvider\":true,\"runProvider\":{\"languageIds\":[\"oberon\"]},\"testProvider\":{\"languageIds\":[\"oberon\"]}},\"displayName\":\"oberon-bsp\",\"version\":\"1.0.0\"}}";
+
+const CLOSED: &[u8] = b"Content-Length: 38\r\n\r\n{\"id\":2,\"jsonrpc\":\"2.0\",\"result\":null}";
+
+const PARSE_ERROR: &[u8] =
+    b"Content-Length: 75\r\n\r\n{\"error\":{\"code\":-32700,\"message\":\"parse error\"},\"id\":null,\"jsonrpc\":\"2.0\"}";
+
+const INVALID: &[u8] =
+    b"Content-Length: 79\r\n\r\n{\"error\":{\"code\":-32600,\"message\":\"invalid request\"},\"id\":null,\"jsonrpc\":\"2.0\"}";
+
+/// What a run left: how it ended, and what its sinks hold.
+#[derive(Drop)]
+struct Left {
+    ended: Ended,
+    output: Vec<u8>,
+    notes: Vec<u8>,
+}
+
+fn joined(alloc: Global, parts: &[&[u8]]) -> Result<Vec<u8>, AllocError> {
+    let mut bytes = Vec::new(alloc);
+    for part in parts {
+        bytes.extend_from_slice(part)?;
+    }
+    Ok(bytes)
+}
+
+fn texts(alloc: Global, words: &[&[u8]]) -> Result<Vec<Text>, Fail> {
+    let mut texts = Vec::new(alloc);
+    for word in words {
+        texts.push(Text::new(alloc, word)?)?;
+    }
+    Ok(texts)
+}
+
+fn run<S: Source, K: Sink>(
+    alloc: Global,
+    input: &mut S,
+    output: &mut K,
+    notes: &mut K,
+) -> Result<Ended, Fail> {
+    let words = texts(alloc, &[b"serve", b"w"])?;
+    Ok(run_words(alloc, words.as_slice(), input, output, notes))
+}
+
+fn run_from(
+    alloc: Global,
+    input: &mut MemSource,
+    failing: Vec<u64>,
+    failing_notes: Vec<u64>,
+) -> Result<Left, Fail> {
+    let mut output = MemSink::new(alloc, 65_536, failing)?;
+    let mut notes = MemSink::new(alloc, 65_536, failing_notes)?;
+    let ended = run(alloc, input, &mut output, &mut notes)?;
+    let output = output.given().to_vec(alloc)?;
+    let notes = notes.given().to_vec(alloc)?;
+    Ok(Left {
+        ended,
+        output,
+        notes,
+    })
+}
+
+fn run_on(alloc: Global, bytes: Vec<u8>, cuts: Vec<u64>) -> Result<Left, Fail> {
+    let mut input = MemSource::new(bytes, cuts, Vec::new(alloc), Vec::new(alloc));
+    run_from(alloc, &mut input, Vec::new(alloc), Vec::new(alloc))
+}
+
+fn expect_left(rt: &impl Abort, left: &Left, status: u8, taken: u64, output: &[u8], notes: &[u8]) {
+    assert_eq!(rt; left.ended, Ended { status, taken });
+    assert!(rt; left.output.as_slice() == output, "other output");
+    assert!(rt; left.notes.as_slice() == notes, "other notes");
+}
+
+#[test]
+fn two_frames(rt: HostRuntime) -> Result<(), Fail> {
+    let alloc = rt.alloc();
+    let session = joined(alloc, &[INITIALIZE, SHUTDOWN, EXIT])?;
+    let answers = joined(alloc, &[INITIALIZED, CLOSED])?;
+    let left = run_on(alloc, session, Vec::new(alloc))?;
+    expect_left(&rt, &left, 0, 336, answers.as_slice(), b"");
+    Ok(())
+}
+
+#[test]
+fn cut_after_each_byte(rt: HostRuntime) -> Result<(), Fail> {
+    let alloc = rt.alloc();
+    let session = joined(alloc, &[INITIALIZE, SHUTDOWN, EXIT])?;
+    let answers = joined(alloc, &[INITIALIZED, CLOSED])?;
+    let mut cuts = Vec::new(alloc);
+    for place in 0..session.len() as u64 {
+        cuts.push(place)?;
+    }
+    let left = run_on(alloc, session, cuts)?;
+    expect_left(&rt, &left, 0, 336, answers.as_slice(), b"");
+    Ok(())
+}
+
+#[test]
+fn ends_of_input(rt: HostRuntime) -> Result<(), Fail> {
+    let alloc = rt.alloc();
+    let damaged = b"damaged input\n".as_slice();
+    let unread = b"Content-Length: 2\r\n\r\n[]".as_slice();
+    let cases: [(&[&[u8]], u8, u64, &[&[u8]], &[u8]); 10] = [
+        (&[], 1, 0, &[], b""),
+        (&[INITIALIZE], 1, 203, &[INITIALIZED], b""),
+        (&[EXIT], 1, 61, &[], b""),
+        (&[INITIALIZE, EXIT, SHUTDOWN], 1, 264, &[INITIALIZED], b""),
+        (
+            &[INITIALIZE, SHUTDOWN, EXIT, b"\0"],
+            0,
+            336,
+            &[INITIALIZED, CLOSED],
+            b"",
+        ),
+        (
+            &[b"Content-Length: 5\r\n\r\n{\"a"],
+            2,
+            24,
+            &[PARSE_ERROR],
+            damaged,
+        ),
+        (
+            &[INITIALIZE, b"Content-Length: 5\n", SHUTDOWN],
+            2,
+            293,
+            &[INITIALIZED, PARSE_ERROR],
+            damaged,
+        ),
+        (&[b"content-length: 2"], 2, 17, &[PARSE_ERROR], damaged),
+        (&[unread, INITIALIZE], 1, 226, &[INVALID, INITIALIZED], b""),
+        (
+            &[SHUTDOWN, unread, EXIT],
+            1,
+            156,
+            &[UNKNOWN_CLOSE, INVALID],
+            b"",
+        ),
+    ];
+    for (parts, status, taken, answers, notes) in cases {
+        let left = run_on(alloc, joined(alloc, parts)?, Vec::new(alloc))?;
+        expect_left(
+            &rt,
+            &left,
+            status,
+            taken,
+            joined(alloc, answers)?.as_slice(),
+            notes,
+        );
+    }
+    Ok(())
+}
+
+const UNKNOWN_CLOSE: &[u8] =
+    b"Content-Length: 77\r\n\r\n{\"error\":{\"code\":-32601,\"message\":\"method not found\"},\"id\":2,\"jsonrpc\":\"2.0\"}";
+
+#[test]
+fn source_fails_at_each_call(rt: HostRuntime) -> Result<(), Fail> {
+    let alloc = rt.alloc();
+    let answers: [&[u8]; 3] = [b"", INITIALIZED, CLOSED];
+    for call in 1..5u64 {
+        let session = joined(alloc, &[INITIALIZE, SHUTDOWN, EXIT])?;
+        let cuts = vec![in alloc; 203u64, 275]?;
+        let mut input = MemSource::new(session, cuts, Vec::new(alloc), vec![in alloc; call]?);
+        let left = run_from(alloc, &mut input, Vec::new(alloc), Vec::new(alloc))?;
+        match call {
+            1 => expect_left(&rt, &left, 3, 0, b"", b"input failed\n"),
+            2 => expect_left(&rt, &left, 3, 203, INITIALIZED, b"input failed\n"),
+            3 => expect_left(
+                &rt,
+                &left,
+                3,
+                275,
+                joined(alloc, &answers)?.as_slice(),
+                b"input failed\n",
+            ),
+            _ => expect_left(&rt, &left, 0, 336, joined(alloc, &answers)?.as_slice(), b""),
+        }
+    }
+    Ok(())
+}
+
+#[test]
+fn sink_fails_at_each_write(rt: HostRuntime) -> Result<(), Fail> {
+    let alloc = rt.alloc();
+    let cases: [(u64, u8, u64, &[&[u8]]); 3] = [
+        (1, 4, 203, &[]),
+        (2, 4, 275, &[INITIALIZED]),
+        (3, 0, 336, &[INITIALIZED, CLOSED]),
+    ];
+    for (write, status, taken, answers) in cases {
+        let session = joined(alloc, &[INITIALIZE, SHUTDOWN, EXIT])?;
+        let mut input = MemSource::new(session, Vec::new(alloc), Vec::new(alloc), Vec::new(alloc));
+        let left = run_from(alloc, &mut input, vec![in alloc; write]?, Vec::new(alloc))?;
+        expect_left(
+            &rt,
+            &left,
+            status,
+            taken,
+            joined(alloc, answers)?.as_slice(),
+            b"",
+        );
+    }
+    let mut input = MemSource::new(
+        joined(alloc, &[b"x"])?,
+        Vec::new(alloc),
+        Vec::new(alloc),
+        Vec::new(alloc),
+    );
+    let left = run_from(alloc, &mut input, Vec::new(alloc), vec![in alloc; 1u64]?)?;
+    expect_left(&rt, &left, 4, 1, PARSE_ERROR, b"");
+    Ok(())
+}
+
+#[test]
+fn other_words(rt: HostRuntime) -> Result<(), Fail> {
+    let alloc = rt.alloc();
+    let usage =
+        b"usage: oberon-bsp serve DIR [--workers N] [--record] | client SCRIPT | check | soak N\n".as_slice();
+    let cases: [&[&[u8]]; 7] = [
+        &[],
+        &[b"serve"],
+        &[b"serve", b""],
+        &[b"serve", b"--record"],
+        &[b"serve", b"w", b"x"],
+        &[b"Serve", b"w"],
+        &[b"soak", b"1"],
+    ];
+    for words in cases {
+        let words = texts(alloc, words)?;
+        let mut input = MemSource::new(
+            joined(alloc, &[EXIT])?,
+            Vec::new(alloc),
+            Vec::new(alloc),
+            Vec::new(alloc),
+        );
+        let mut output = MemSink::new(alloc, 100, Vec::new(alloc))?;
+        let mut notes = MemSink::new(alloc, 100, Vec::new(alloc))?;
+        let ended = run_words(alloc, words.as_slice(), &mut input, &mut output, &mut notes);
+        assert_eq!(rt;
+            ended,
+            Ended {
+                status: 6,
+                taken: 0
+            }
+        );
+        assert!(rt; output.given().is_empty());
+        assert!(rt; notes.given() == usage);
+    }
+    Ok(())
+}

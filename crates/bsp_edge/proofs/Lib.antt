@@ -1,0 +1,5 @@
+pub mod FaultLaws
+pub mod PieceLaws
+pub mod PollLaws
+pub mod Searches
+pub mod StreamLaws

@@ -1,0 +1,9 @@
+pub mod Calls
+pub mod Course
+pub mod Faults
+pub mod Orders
+pub mod Pieces
+pub mod Reading
+pub mod Stores
+pub mod Streams
+pub mod Writing

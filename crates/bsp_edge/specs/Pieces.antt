@@ -1,0 +1,66 @@
+-- What a source in memory answers, and why.
+use Rattle.std.specs.Prelude.{◌≡◌, ℕ, ◌+◌, ◌<◌, ◌≤◌, List, length, All}
+use Rattle.bsp_edge.specs.declared.reading.Got.{Got}
+use Rattle.bsp_edge.specs.declared.reading.Got.TheVariants.{Bytes, End, Quiet, Failed}
+use Rattle.bsp_edge.specs.Calls.{Calls, FailsNext, passed_call, failed_call}
+use Rattle.bsp_edge.specs.Course.{Course}
+
+-- a source in memory
+pub record SourceState : Type 0 where
+  pub left : List ℕ
+  pub course : Course
+  -- the places where a piece ends, beside the quiet places
+  pub cuts : List ℕ
+  pub calls : Calls
+
+-- a piece of `count` bytes from `place` passes none of the cuts
+abbrev pub PassesNoCut : List ℕ → ℕ → ℕ → Type 0
+PassesNoCut cuts place count = All (λ cut. place < cut → place + count ≤ cut) cuts
+
+-- nor any of the quiet places
+abbrev pub PassesNoQuiet : List (ℕ × ℕ) → ℕ → ℕ → Type 0
+PassesNoQuiet polls place count = All (λ quiet. place < quiet.0 → place + count ≤ quiet.0) polls
+
+-- a piece of `count` bytes may be taken from what is left into `size` bytes
+pub record IsPiece (left : List ℕ) (course : Course) (cuts : List ℕ) (size count : ℕ) : Type 0 where
+  pub fits : count ≤ size
+  pub there : count ≤ length left
+  pub uncut : PassesNoCut cuts course.place count
+  pub awake : PassesNoQuiet course.polls course.place count
+
+-- no longer piece may be taken
+pub record IsLongestPiece (left : List ℕ) (course : Course) (cuts : List ℕ) (size count : ℕ) : Type 0 where
+  pub piece : IsPiece left course cuts size count
+  pub longest : (other : ℕ) → IsPiece left course cuts size other → other ≤ count
+
+-- no poll is left at this place
+abbrev pub HasNoPoll : Course → Type 0
+HasNoPoll course = All (λ quiet. quiet.0 ≡ course.place → quiet.1 ≡ 0) course.polls
+
+-- what the next piece is, of a call that doesn't fail and isn't quiet
+abbrev pub PieceAnswers : List ℕ → Course → List ℕ → ℕ → Got → Type 0
+PieceAnswers left course cuts size (Bytes count) = IsLongestPiece left course cuts size count
+PieceAnswers left course cuts size End = Unit {0}
+PieceAnswers left course cuts size Quiet = ⊥
+PieceAnswers left course cuts size Failed = ⊥
+
+-- what a `read` into `size` bytes answers
+abbrev pub ReadAnswers : SourceState → ℕ → Got → Type 0
+ReadAnswers source size (Bytes count) = ¬ FailsNext source.calls × IsLongestPiece source.left source.course source.cuts size count
+ReadAnswers source size End = ¬ FailsNext source.calls
+ReadAnswers source size Quiet = ⊥
+ReadAnswers source size Failed = FailsNext source.calls
+
+-- what a `poll` into `size` bytes answers
+abbrev pub PollAnswers : SourceState → ℕ → Got → Type 0
+PollAnswers source size (Bytes count) = ¬ FailsNext source.calls × HasNoPoll source.course × IsLongestPiece source.left source.course source.cuts size count
+PollAnswers source size End = ¬ FailsNext source.calls × HasNoPoll source.course
+PollAnswers source size Quiet = ¬ FailsNext source.calls
+PollAnswers source size Failed = FailsNext source.calls
+
+-- the calls behind one that answered so
+abbrev pub calls_after : Got → Calls → Calls
+calls_after (Bytes count) calls = passed_call calls
+calls_after End calls = passed_call calls
+calls_after Quiet calls = passed_call calls
+calls_after Failed calls = failed_call calls

@@ -1,0 +1,328 @@
+ghost use Rattle.std.specs.Prelude.{◌≡◌, ℕ, ◌+◌, ◌-◌, ◌<◌, ◌≤◌, ◌≢◌, ◌*◌, min, nat_lt, Some, All, drop, length, take, IsPermutation};
+ghost use Rattle.std.specs.Bool.{OnTrue, OnFalse};
+ghost use Rattle.std.specs.List.Sorted.{IsNonDecreasing, IsNonDecreasingBy};
+ghost use Rattle.std.specs.List.{AllWithin};
+ghost use Rattle.bsp_edge.specs.Course.{UsesPoll};
+ghost use Rattle.bsp_edge.specs.Orders.{rank};
+ghost use Rattle.bsp_edge.specs.Pieces.{HasNoPoll, IsLongestPiece, PassesNoCut, PassesNoQuiet, PieceAnswers, PollAnswers, ReadAnswers, calls_after};
+ghost use Rattle.bsp_edge.specs.Reading.{ReadFaults, ReadLeaves, ReadMoves};
+
+use crate::calls::FailingCalls;
+use crate::reading::{Got, Source};
+use std::marker::Model;
+
+/// A source in memory. Its pieces end where it was told, it is quiet where it was told, and told
+/// calls of it fail.
+#[derive(Drop)]
+pub struct MemSource {
+    bytes: Vec<u8>,
+    place: usize,
+    began: usize,
+    cuts: Vec<u64>,
+    quiet: Vec<(u64, u32)>,
+    calls: FailingCalls,
+}
+
+impl Model for MemSource {
+    ghost use Rattle.std.specs.Prelude.{drop, length};
+    ghost use Rattle.bsp_edge.specs.Orders.{IsInOrder};
+    ghost use Rattle.bsp_edge.specs.Pieces.{SourceState};
+
+    ghost Value = { SourceState };
+
+    ghost view = { λ source. record {
+      left = drop source.place source.bytes.items;
+      course = record { place = source.place; began = source.began; polls = source.quiet.items };
+      cuts = source.cuts.items;
+      calls = source.calls;
+    } };
+
+    ghost invariant = { λ source.
+        IsInOrder source.place (length source.bytes.items) source.cuts.items source.quiet.items };
+}
+
+impl MemSource {
+    /// A source of `bytes`. A place is a number of bytes from the start. A piece ends at each cut and
+    /// at each quiet place. At a quiet place the stated number of polls answer Quiet. The calls with
+    /// the ordinals in `failing` fail, reads and polls counted together from 1.
+    pub fn new(
+        bytes: Vec<u8>,
+        mut cuts: Vec<u64>,
+        mut quiet: Vec<(u64, u32)>,
+        failing: Vec<u64>,
+    ) -> MemSource
+        ensures left { result.left ≡ bytes.items }
+        ensures place { result.course.place ≡ 0 }
+        ensures began { result.course.began ≡ 0 }
+        ensures quiet { IsPermutation quiet.items result.course.polls }
+        ensures cuts { IsPermutation cuts.items result.cuts }
+        ensures failing { IsPermutation failing.items result.calls.failing }
+        ensures made { result.calls.made ≡ 0 }
+        ensures faults { result.calls.faults ≡ 0 }
+    {
+        cuts.sort_unstable();
+        quiet.sort_unstable();
+        MemSource {
+            bytes,
+            place: 0,
+            began: 0,
+            cuts,
+            quiet,
+            calls: FailingCalls::new(failing),
+        }
+    }
+
+    /// Takes the next piece into the front of `into`.
+    fn take_piece(&mut self, into: &mut [u8]) -> Got
+        requires { 0 < length into.old }
+        ensures left { ReadLeaves (Some self.old.left) (Some self.new.left) into.new result }
+        ensures course { ReadMoves (Some self.old.course) (Some self.new.course) result }
+        ensures answer { PieceAnswers self.old.left self.old.course self.old.cuts (length into.old) result }
+        ensures cuts { self.new.cuts ≡ self.old.cuts }
+        ensures calls { self.new.calls ≡ self.old.calls }
+    {
+        let (_, left) = self.bytes.as_slice().split_at(self.place);
+        let room = left.len().min(into.len());
+        if room == 0 {
+            return Got::End;
+        }
+        let uncut = upto_cut(self.cuts.as_slice(), self.place, room);
+        let count = upto_quiet(self.quiet.as_slice(), self.place, uncut);
+        copy_front(left, into, count);
+        self.began = self.place;
+        self.place += count;
+        Got::Bytes(count)
+    }
+
+    /// Uses up a poll at this place, if one is left there.
+    fn use_poll(&mut self) -> bool
+        ensures used { OnTrue result (UsesPoll self.old.course self.new.course) }
+        ensures none { OnFalse result (HasNoPoll self.old.course) }
+        ensures same { OnFalse result (self.new ≡ self.old) }
+        ensures left { self.new.left ≡ self.old.left }
+        ensures cuts { self.new.cuts ≡ self.old.cuts }
+        ensures calls { self.new.calls ≡ self.old.calls }
+    {
+        let place = self.place as u64;
+        let first = polls_passed(self.quiet.as_slice(), place);
+        if first == self.quiet.len() {
+            return false;
+        }
+        let (stop, polls) = self.quiet[first];
+        if stop != place {
+            return false;
+        }
+        self.quiet[first] = (stop, polls - 1);
+        true
+    }
+}
+
+impl Source for MemSource {
+    ghost left = { λ source. Some source.left };
+
+    ghost course = { λ source. Some source.course };
+
+    ghost faults = { λ source. source.calls.faults };
+
+    #[tactic(auto, using(crate::proofs::PieceLaws::read_answers))]
+    fn read(&mut self, into: &mut [u8]) -> Got
+        requires { 0 < length into.old }
+        ensures left { ReadLeaves (Some self.old.left) (Some self.new.left) into.new result }
+        ensures course { ReadMoves (Some self.old.course) (Some self.new.course) result }
+        ensures faults { ReadFaults self.old.calls.faults self.new.calls.faults result }
+        ensures awake { result ≢ Got.Quiet }
+        ensures answer { ReadAnswers self.old (length into.old) result }
+        ensures cuts { self.new.cuts ≡ self.old.cuts }
+        ensures calls { self.new.calls ≡ calls_after result self.old.calls }
+    {
+        if self.calls.next_fails() {
+            return Got::Failed;
+        }
+        self.take_piece(into)
+    }
+
+    #[tactic(auto, using(crate::proofs::PieceLaws::poll_answers))]
+    fn poll(&mut self, into: &mut [u8]) -> Got
+        requires { 0 < length into.old }
+        ensures left { ReadLeaves (Some self.old.left) (Some self.new.left) into.new result }
+        ensures course { ReadMoves (Some self.old.course) (Some self.new.course) result }
+        ensures faults { ReadFaults self.old.calls.faults self.new.calls.faults result }
+        ensures answer { PollAnswers self.old (length into.old) result }
+        ensures cuts { self.new.cuts ≡ self.old.cuts }
+        ensures calls { self.new.calls ≡ calls_after result self.old.calls }
+    {
+        if self.calls.next_fails() {
+            Got::Failed
+        } else if self.use_poll() {
+            Got::Quiet
+        } else {
+            self.take_piece(into)
+        }
+    }
+}
+
+/// Copies the first `count` bytes.
+fn copy_front(from: &[u8], into: &mut [u8], count: usize)
+    requires from { count ≤ length from.now }
+    requires into { count ≤ length into.old }
+    ensures { take count into.new ≡ take count from.now }
+{
+    into[..count].copy_from_slice(&from[..count]);
+}
+
+/// The longest piece of at most `room` bytes from `place` that passes no cut.
+fn upto_cut(cuts: &[u64], place: usize, room: usize) -> usize
+    requires { IsNonDecreasing cuts.now }
+    ensures room { result ≤ room }
+    ensures some { 0 < room → 0 < result }
+    ensures cuts { PassesNoCut cuts.now place result }
+    ensures longest { (other : ℕ) → other ≤ room → PassesNoCut cuts.now place other → other ≤ result }
+{
+    let next = cuts_passed(cuts, place as u64);
+    if next == cuts.len() {
+        return room;
+    }
+    upto(cuts[next], place, room)
+}
+
+/// The longest piece of at most `room` bytes from `place` that passes no quiet place.
+fn upto_quiet(quiet: &[(u64, u32)], place: usize, room: usize) -> usize
+    requires { IsNonDecreasingBy rank quiet.now }
+    ensures room { result ≤ room }
+    ensures some { 0 < room → 0 < result }
+    ensures quiet { PassesNoQuiet quiet.now place result }
+    ensures longest { (other : ℕ) → other ≤ room → PassesNoQuiet quiet.now place other → other ≤ result }
+{
+    let next = quiet_passed(quiet, place as u64);
+    if next == quiet.len() {
+        return room;
+    }
+    upto(quiet[next].0, place, room)
+}
+
+/// The bytes from `place` to `stop`, at most `room` of them.
+fn upto(stop: u64, place: usize, room: usize) -> usize
+    requires { place < stop }
+    ensures { result ≡ min room (stop - place) }
+{
+    let ahead = (stop - place as u64) as usize;
+    ahead.min(room)
+}
+
+/// How many cuts are at `place` or before it. They stand first.
+fn cuts_passed(cuts: &[u64], place: u64) -> usize
+    requires { IsNonDecreasing cuts.now }
+    ensures within { result ≤ length cuts.now }
+    ensures passed { AllWithin (λ cut. cut ≤ place) cuts.now 0 result }
+    ensures ahead { AllWithin (λ cut. place < cut) cuts.now result (length cuts.now) }
+{
+    cuts.partition_point(|cut| *cut <= place)
+}
+
+/// How many quiet places are at `place` or before it. They stand first.
+fn quiet_passed(quiet: &[(u64, u32)], place: u64) -> usize
+    requires { IsNonDecreasingBy rank quiet.now }
+    ensures within { result ≤ length quiet.now }
+    ensures passed { AllWithin (λ stop. stop.0 ≤ place) quiet.now 0 result }
+    ensures ahead { AllWithin (λ stop. place < stop.0) quiet.now result (length quiet.now) }
+{
+    quiet.partition_point(|stop| stop.0 <= place)
+}
+
+/// How many quiet places are before `place`, or at it with no poll left. They stand first.
+fn polls_passed(quiet: &[(u64, u32)], place: u64) -> usize
+    requires { IsNonDecreasingBy rank quiet.now }
+    ensures within { result ≤ length quiet.now }
+    ensures passed { AllWithin (λ stop. rank stop < 2 * place + 1) quiet.now 0 result }
+    ensures ahead { AllWithin (λ stop. 2 * place + 1 ≤ rank stop) quiet.now result (length quiet.now) }
+{
+    quiet.partition_point(|stop| is_spent(*stop, place))
+}
+
+/// Is this quiet place before `place`, or at it with no poll left?
+fn is_spent(stop: (u64, u32), place: u64) -> bool
+    ensures { result ≡ nat_lt (rank stop) (2 * place + 1) }
+{
+    stop.0 < place || (stop.0 == place && stop.1 == 0)
+}
+
+#[cfg(test)]
+mod tests {
+    use super::*;
+    use std::alloc::{AllocError, Global};
+    use std::test::Fail;
+
+    fn read<S: Source>(source: &mut S, into: &mut [u8; 8]) -> Got {
+        source.read(into)
+    }
+
+    fn poll<S: Source>(source: &mut S, into: &mut [u8; 8]) -> Got {
+        source.poll(into)
+    }
+
+    /// A source of `bytes` with these cuts, quiet places and failing calls.
+    fn made(
+        alloc: Global,
+        bytes: &[u8],
+        cuts: &[u64],
+        quiet: &[(u64, u32)],
+        failing: &[u64],
+    ) -> Result<MemSource, AllocError> {
+        let bytes = Vec::from_slice(alloc, bytes)?;
+        let cuts = Vec::from_slice(alloc, cuts)?;
+        let quiet = Vec::from_slice(alloc, quiet)?;
+        let failing = Vec::from_slice(alloc, failing)?;
+        Ok(MemSource::new(bytes, cuts, quiet, failing))
+    }
+
+    #[test]
+    fn pieces_end_at_cuts(rt: HostRuntime) -> Result<(), Fail> {
+        let mut source = made(rt.alloc(), b"abcdefghijklmnop", &[5, 2, 2, 0, 99], &[], &[])?;
+        let mut into = [0; 8];
+        for want in [&b"ab"[..], b"cde", b"fghijklm", b"nop"] {
+            assert_eq!(rt; read(&mut source, &mut into), Got::Bytes(want.len()));
+            let (front, _) = into.split_at(want.len().min(8));
+            assert_eq!(rt; front, want);
+        }
+        for _ in 0..2 {
+            assert_eq!(rt; read(&mut source, &mut into), Got::End);
+            assert_eq!(rt; poll(&mut source, &mut into), Got::End);
+        }
+        Ok(())
+    }
+
+    #[test]
+    fn quiet_places_have_their_polls(rt: HostRuntime) -> Result<(), Fail> {
+        let quiet = [(4, 9), (2, 1), (0, 1), (2, 2), (6, 1)];
+        let mut source = made(rt.alloc(), b"abcdef", &[], &quiet, &[])?;
+        let mut into = [0; 8];
+        assert_eq!(rt; poll(&mut source, &mut into), Got::Quiet);
+        assert_eq!(rt; poll(&mut source, &mut into), Got::Bytes(2));
+        for _ in 0..3 {
+            assert_eq!(rt; poll(&mut source, &mut into), Got::Quiet);
+        }
+        assert_eq!(rt; poll(&mut source, &mut into), Got::Bytes(2));
+        assert_eq!(rt; poll(&mut source, &mut into), Got::Quiet);
+        assert_eq!(rt; read(&mut source, &mut into), Got::Bytes(2));
+        assert_eq!(rt; poll(&mut source, &mut into), Got::Quiet);
+        assert_eq!(rt; poll(&mut source, &mut into), Got::End);
+        Ok(())
+    }
+
+    #[test]
+    fn told_calls_fail(rt: HostRuntime) -> Result<(), Fail> {
+        let mut source = made(rt.alloc(), b"abcd", &[1, 2, 3], &[(1, 1)], &[5, 1, 3, 7])?;
+        let mut into = [0; 8];
+        assert_eq!(rt; read(&mut source, &mut into), Got::Failed);
+        assert_eq!(rt; read(&mut source, &mut into), Got::Bytes(1));
+        assert_eq!(rt; poll(&mut source, &mut into), Got::Failed);
+        assert_eq!(rt; poll(&mut source, &mut into), Got::Quiet);
+        assert_eq!(rt; poll(&mut source, &mut into), Got::Failed);
+        assert_eq!(rt; poll(&mut source, &mut into), Got::Bytes(1));
+        assert_eq!(rt; into[0], b'b');
+        assert_eq!(rt; read(&mut source, &mut into), Got::Failed);
+        assert_eq!(rt; read(&mut source, &mut into), Got::Bytes(1));
+        assert_eq!(rt; into[0], b'c');
+        Ok(())
+    }
+}

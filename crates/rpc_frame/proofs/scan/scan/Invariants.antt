@@ -1,0 +1,13 @@
+use Rattle.std.proofs.Common.{length}
+use Rattle.rpc_frame.specs.Partial.{GoesOn, IsWithin, ReadsOn}
+use Rattle.rpc_frame.proofs.scan.scan.Given as goal
+
+abbrev pub invariant-pieces : goal.invariant-pieces
+invariant-pieces l = record {
+  within : IsWithin l.reading;
+  reads_on : ReadsOn l.fn.reading l.reading l.fn.marks.items l.marks.items l.fn.piece l.rest;
+  goes_on : GoesOn l.fn.marks.items l.marks.items;
+}
+
+abbrev pub decreases-pieces : goal.decreases-pieces
+decreases-pieces l = length l.rest

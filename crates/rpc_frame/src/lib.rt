@@ -1,0 +1,20 @@
+//! The frames of the base protocol (Language Server Protocol 3.17): a stream that comes in any
+//! pieces is cut into the contents of its frames, and a content is written as a frame.
+#![tactic(auto)]
+
+mod reading;
+mod scan;
+mod stream;
+mod write;
+
+pub use stream::{Decoder, FeedFault};
+pub use write::frame_into;
+
+#[cfg(test)]
+mod tests;
+
+/// The most bytes that the content of a frame may have.
+pub const CONTENT_LIMIT: usize = 16_777_216;
+
+/// The most bytes of one stream that a decoder takes.
+pub const STREAM_LIMIT: u64 = 34_359_738_368;

@@ -1,0 +1,149 @@
+ghost use Rattle.std.specs.Prelude.{◌≡◌, ℕ, ◌+◌, ◌<◌, ◌≤◌, ◌↔◌, List, [], ◌++◌, length, IsTrue, IfOk, IfSome, IfNone, OnOk, OnErr, IsErrOf};
+ghost use Rattle.rpc_frame.specs.Frames.{BeginsWith, HasNoFrame, IsBorder, IsBroken, IsSound};
+
+use crate::reading::{Mark, Reading};
+use crate::scan::append;
+use crate::{CONTENT_LIMIT, STREAM_LIMIT};
+use ob_text::NoMemory;
+use std::alloc::Global;
+use std::collections::VecDeque;
+use std::marker::Model;
+
+/// Why a decoder takes no more of its stream.
+#[derive(Clone, Copy, Debug, PartialEq, Eq)]
+pub enum FeedFault {
+    /// The stream begins no list of frames, and never will.
+    Damaged,
+    NoMemory,
+}
+
+impl From<NoMemory> for FeedFault {
+    ghost use Rattle.std.specs.Prelude.{◌≡◌};
+    ghost use Rattle.rpc_frame.specs.declared.stream.FeedFault.TheVariants as fault;
+
+    ghost from_gives = { λ _ e. e ≡ fault.NoMemory };
+
+    fn from(_error: NoMemory) -> FeedFault {
+        FeedFault::NoMemory
+    }
+}
+
+/// Cuts a stream that comes in any pieces into the contents of its frames. Looks at each byte of a
+/// header once, and copies a content once.
+#[derive(Debug, Drop)]
+pub struct Decoder {
+    alloc: Global,
+    /// The end of the stream, of which the first `start` bytes were given.
+    bytes: Vec<u8>,
+    start: usize,
+    /// The whole frames that were not given yet, in order.
+    marks: VecDeque<Mark>,
+    /// What has come behind them.
+    reading: Reading,
+    given_end: u64,
+}
+
+impl Model for Decoder {
+    ghost use Rattle.std.specs.Prelude.{drop};
+    ghost use Rattle.rpc_frame.specs.Frames.{Waiting};
+
+    ghost Value = { Waiting };
+
+    ghost use Rattle.rpc_frame.specs.Kept.{IsKept};
+
+    ghost view = { λ d. record { bytes = drop d.start d.bytes.items; given_end = d.given_end } };
+
+    ghost invariant = { IsKept };
+}
+
+impl Decoder {
+    /// A decoder at the start of its stream.
+    pub fn new(alloc: Global) -> Decoder
+        ensures { result ≡ record { bytes = []; given_end = 0 } }
+    {
+        Decoder {
+            alloc,
+            bytes: Vec::new(alloc),
+            start: 0,
+            marks: VecDeque::new(alloc),
+            reading: Reading::START,
+            given_end: 0,
+        }
+    }
+
+    /// Takes the next piece of the stream. Frames that end before a damage are given all the same.
+    pub fn feed(&mut self, piece: &[u8]) -> Result<(), FeedFault>
+        requires { self.old.given_end + length self.old.bytes + length piece.now ≤ STREAM_LIMIT }
+
+        // The piece is taken, unless there is no memory.
+        ensures taken { (IsErrOf result FeedFault.NoMemory → ⊥)
+            → self.new ≡ record self.old { bytes = self.old.bytes ++ piece.now } }
+        ensures kept { IsErrOf result FeedFault.NoMemory → self.new ≡ self.old }
+
+        // Damage is told as soon as no list of frames can begin so, and from then on.
+        ensures sound { OnOk result (IsSound self.new.bytes) }
+        ensures damaged { IsErrOf result FeedFault.Damaged → IsBroken self.new.bytes }
+    {
+        self.compact();
+        let reading = append(&mut self.bytes, &mut self.marks, self.reading, piece)?;
+        self.reading = reading;
+        if reading.is_broken() {
+            return Err(FeedFault::Damaged);
+        }
+        Ok(())
+    }
+
+    /// The content of the next whole frame.
+    pub fn next_body(&mut self) -> Result<Option<Vec<u8>>, NoMemory>
+        ensures some { IfOk result (λ next. IfSome next (λ body.
+            BeginsWith self.old.bytes body.items self.new.bytes)) }
+        ensures limit { IfOk result (λ next. IfSome next (λ body.
+            length body.items ≤ CONTENT_LIMIT)) }
+        ensures fewer { IfOk result (λ next. IfSome next (λ _.
+            length self.new.bytes < length self.old.bytes)) }
+        ensures none { IfOk result (λ next. IfNone next (HasNoFrame self.old.bytes)) }
+        ensures none_kept { IfOk result (λ next. IfNone next (self.new ≡ self.old)) }
+        ensures count { self.new.given_end + length self.new.bytes
+            ≡ self.old.given_end + length self.old.bytes }
+        ensures err { OnErr result (self.new ≡ self.old) }
+    {
+        let mark = match self.marks.front() {
+            None => return Ok(None),
+            Some(mark) => *mark,
+        };
+        let waiting = self.bytes.as_slice().split_at(self.start).1;
+        let content = waiting.split_at(mark.header).1.split_at(mark.content).0;
+        let body = Vec::from_slice(self.alloc, content)?;
+        let length = mark.header + mark.content;
+        self.marks.pop_front();
+        self.start += length;
+        self.given_end += length as u64;
+        Ok(Some(body))
+    }
+
+    /// Whether the stream ends with a frame, or is empty.
+    pub fn at_border(&self) -> bool
+        ensures { IsTrue result ↔ IsBorder self.now.bytes }
+    {
+        self.reading.is_start()
+    }
+
+    /// How many bytes the stream has through the last frame that was given.
+    pub fn given_end(&self) -> u64
+        ensures { result ≡ self.now.given_end }
+    {
+        self.given_end
+    }
+
+    /// Drops the bytes that were given, once they are more than the others.
+    fn compact(&mut self)
+        ensures { self.new ≡ self.old }
+    {
+        let left = self.bytes.len() - self.start;
+        if left < self.start {
+            self.bytes.copy_within(self.start.., 0);
+            self.bytes.truncate(left);
+            self.start = 0;
+        }
+    }
+}

@@ -1,0 +1,4 @@
+pub mod Framing
+pub mod Literals
+pub mod StandingLaws
+pub mod Steps

@@ -1,0 +1,69 @@
+-- What follows for an order that a core stands for, and for one with more messages written.
+use Rattle.std.proofs.Common.{◌≡◌, ◌++◌, ◌≤◌, ℕ, ℤ, List, [], ◌∷◌, map, Bool, true, false, cond, Option, Some, None, IfSome, Result, Ok, Err, refl, ap, ◌∙◌, append_assoc, append-nil, sym, subst, lit≤}
+use Rattle.std.specs.Prelude.{codes}
+use Rattle.rpc_peer.specs.declared.message.Message.{Message}
+use Rattle.rpc_peer.specs.Meaning.{meaning}
+use Rattle.rpc_peer.specs.Said.{Said, said, request, notification, result, failure}
+use Rattle.session_law.specs.Lawful.{Lawful, EachAllowed}
+use Rattle.session_law.specs.Order.{Event, take, ends, write, takes_of, writes_of, end_of}
+use Rattle.session_law.specs.declared.InputEnd.TheVariants.{Border, Damaged, Failed}
+use Rattle.session_law.specs.Methods.{is_named}
+use Rattle.session_law.specs.Past.{exit_status, closed_after, status_after}
+use Rattle.session_core.specs.Standing.{StandsFor, Keeps, Knows, IsQuiet, IsAlive, onto}
+use Rattle.session_core.specs.declared.session.Core.{Core}
+
+-- what is allowed with more messages written is allowed before them
+pub before : (messages : List Said) (order : List Event) → EachAllowed (onto messages order) → EachAllowed order
+before [] order each = each
+before (m ∷ messages) order each = (before messages (write m ∷ order) each).1
+
+-- an order that a core stands for is lawful
+pub stood_lawful : (core : Core) (order : List Event) → StandsFor core order → Lawful order
+stood_lawful core order stands = record { each = before (map said core.out.items) order stands.lawful.each }
+
+pub onto-push : (messages : List Said) (m : Said) (order : List Event) → onto (messages ++ m ∷ []) order ≡ write m ∷ onto messages order
+onto-push [] m order = refl
+onto-push (first ∷ messages) m order = onto-push messages m (write first ∷ order)
+
+pub takes_of-onto : (messages : List Said) (order : List Event) → takes_of (onto messages order) ≡ takes_of order
+takes_of-onto [] order = refl
+takes_of-onto (m ∷ messages) order = takes_of-onto messages (write m ∷ order)
+
+pub end_of-onto : (messages : List Said) (order : List Event) → end_of (onto messages order) ≡ end_of order
+end_of-onto [] order = refl
+end_of-onto (m ∷ messages) order = end_of-onto messages (write m ∷ order)
+
+pub writes_of-onto : (messages : List Said) (order : List Event) → writes_of (onto messages order) ≡ writes_of order ++ messages
+writes_of-onto [] order = sym (append-nil (writes_of order))
+writes_of-onto (m ∷ messages) order = writes_of-onto messages (write m ∷ order) ∙ append_assoc (writes_of order) (m ∷ []) messages
+
+pub status_after-onto : (messages : List Said) (order : List Event) → status_after (onto messages order) ≡ status_after order
+status_after-onto [] order = refl
+status_after-onto (m ∷ messages) order = status_after-onto messages (write m ∷ order)
+
+-- what a core knows of its order that has nothing left to write and found memory
+pub known : (core : Core) (order : List Event) → IsQuiet core → IsAlive core → StandsFor core order → Knows core.opened core.closed core.status order
+known core order quiet alive stands =
+    let keeps = subst (λ (items : List Message). Keeps core.opened core.closed core.dead core.status (onto (map said items) order)) quiet stands in
+    keeps.knows alive
+
+status_left : (leaves closed : Bool) → IfSome (cond leaves (Some (cond closed 0 1)) None) (λ status. status ≤ 3)
+status_left true true = lit≤ tt
+status_left true false = lit≤ tt
+status_left false closed = tt
+
+status_taken : (meant : Result Said ℤ) (closed : Bool) → IfSome (exit_status meant closed) (λ status. status ≤ 3)
+status_taken (Ok (request id method params)) closed = tt
+status_taken (Ok (notification method params)) closed = status_left (is_named (codes "build/exit") method) closed
+status_taken (Ok (result id value)) closed = tt
+status_taken (Ok (failure id code text)) closed = tt
+status_taken (Err code) closed = tt
+
+-- a session that ended has one of these statuses
+pub status_within : (order : List Event) → IfSome (status_after order) (λ status. status ≤ 3)
+status_within [] = tt
+status_within (take body ∷ order) = status_taken (meaning body) (closed_after order)
+status_within (ends Border ∷ order) = lit≤ tt
+status_within (ends Damaged ∷ order) = lit≤ tt
+status_within (ends Failed ∷ order) = lit≤ tt
+status_within (write m ∷ order) = status_within order

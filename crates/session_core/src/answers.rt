@@ -1,0 +1,99 @@
+ghost use Rattle.std.specs.Prelude.{◌≡◌, IfOk};
+ghost use Rattle.serde_json.specs.View.{view};
+ghost use Rattle.rpc_peer.specs.Said.{said, IsId, result as answers, failure};
+ghost use Rattle.session_law.specs.Lawful.{IsFramed};
+ghost use Rattle.session_law.specs.Methods.{capabilities, initialize_result, null_message};
+ghost use Rattle.session_core.specs.Acting.{answer_to, answer_unread, verdict_of};
+
+use crate::verdicts::Owed;
+use ob_text::{NoMemory, Text};
+use rpc_peer::{ErrorObject, Id, Message};
+use serde_json::{Value, json};
+use std::alloc::{AllocError, Global};
+
+/// The code of an input that is no list of frames (JSON-RPC 2.0, section 5.1).
+pub const PARSE_ERROR: i32 = -32700;
+
+/// The code of a request whose method isn't known (JSON-RPC 2.0, section 5.1).
+const METHOD_NOT_FOUND: i64 = -32601;
+
+/// The response that gives a request what it is owed.
+#[tactic(auto, using(crate::proofs::Framing::framed_answer))]
+pub fn answer(alloc: Global, id: Id, owed: Owed) -> Result<Message, NoMemory>
+    requires { IsId id }
+    ensures answer { IfOk result (λ m. said m ≡ answer_to id (verdict_of owed)) }
+    ensures framed { IsFramed (answer_to id (verdict_of owed)) }
+{
+    match owed {
+        Owed::Opening => {
+            let value = initialize_value(alloc)?;
+            Ok(success(id, value))
+        }
+        Owed::Closing => Ok(success(id, Value::Null)),
+        Owed::Unknown => failure(alloc, Some(id), METHOD_NOT_FOUND, b"method not found"),
+    }
+}
+
+/// The response to what couldn't be read, with this code.
+pub fn unread_answer(alloc: Global, code: i32) -> Result<Message, NoMemory>
+    ensures answer { IfOk result (λ m. said m ≡ answer_unread code) }
+    ensures framed { IsFramed (answer_unread code) }
+{
+    failure(alloc, None, i64::from(code), unread_message(code))
+}
+
+#[tactic(auto, unfolding(session_law::specs::Methods::null_message))]
+fn unread_message(code: i32) -> &'static [u8]
+    ensures { result.now ≡ null_message code }
+{
+    if code == PARSE_ERROR {
+        b"parse error"
+    } else {
+        b"invalid request"
+    }
+}
+
+fn success(id: Id, value: Value) -> Message
+    ensures { said result ≡ answers (Some id) (view value) }
+{
+    Message::Response {
+        id: Some(id),
+        answer: Ok(value),
+    }
+}
+
+fn failure(alloc: Global, id: Option<Id>, code: i64, message: &[u8]) -> Result<Message, NoMemory>
+    ensures { IfOk result (λ m. said m ≡ failure id code message.now) }
+{
+    let message = Text::new(alloc, message)?;
+    Ok(Message::Response {
+        id,
+        answer: Err(ErrorObject { code, message }),
+    })
+}
+
+#[tactic(auto, unfolding(session_law::specs::Methods::initialize_result))]
+fn initialize_value(alloc: Global) -> Result<Value, AllocError>
+    ensures { IfOk result (λ v. view v ≡ initialize_result) }
+{
+    let capabilities = capabilities_value(alloc)?;
+    json!(in alloc; {
+        "bspVersion": "2.2.0",
+        "capabilities": capabilities,
+        "displayName": "oberon-bsp",
+        "version": "1.0.0"
+    })
+}
+
+fn capabilities_value(alloc: Global) -> Result<Value, AllocError>
+    ensures { IfOk result (λ v. view v ≡ capabilities) }
+{
+    json!(in alloc; {
+        "buildTargetChangedProvider": true,
+        "canReload": true,
+        "compileProvider": {"languageIds": ["oberon"]},
+        "inverseSourcesProvider": true,
+        "runProvider": {"languageIds": ["oberon"]},
+        "testProvider": {"languageIds": ["oberon"]}
+    })
+}

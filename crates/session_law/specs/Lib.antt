@@ -1,0 +1,4 @@
+pub mod Order
+pub mod Methods
+pub mod Past
+pub mod Lawful

@@ -1,0 +1,63 @@
+-- The methods of the Build Server Protocol 2.2 that the session answers, and what it answers them.
+use Rattle.std.specs.Prelude.{◌≡◌, ◌==◌, ◌&&◌, ℕ, ℤ, negsuc, List, codes, Bool, true, not, if◌then◌else◌}
+use Rattle.std.specs.Cmp.Lexicographic.{pointwise}
+use Rattle.std.specs.Ordering.{int_eq}
+use Rattle.serde_json.specs.Data.{Data, null, boolean, string, array, object, Items, item, no_items, member, no_members}
+
+abbrev pub is_named : List ℕ → List ℕ → Bool
+is_named name method = pointwise ◌==◌ name method
+
+-- ---- codes and their messages (JSON-RPC 2.0, section 5.1)
+
+abbrev pub parse_error : ℤ
+parse_error = negsuc 32699
+
+abbrev pub invalid_request : ℤ
+invalid_request = negsuc 32599
+
+abbrev pub method_not_found : ℤ
+method_not_found = negsuc 32600
+
+-- the message beside a code that is answered with the id null
+unfoldable pub null_message : ℤ → List ℕ
+null_message code = if int_eq code parse_error then codes "parse error" else codes "invalid request"
+
+-- ---- what initialize is answered
+
+abbrev pub languages : Data
+languages = array (item (string (codes "oberon")) no_items)
+
+abbrev pub provider : Data
+provider = object (member (codes "languageIds") languages no_members)
+
+abbrev pub capabilities : Data
+capabilities =
+    object (member (codes "buildTargetChangedProvider") (boolean true)
+    (member (codes "canReload") (boolean true)
+    (member (codes "compileProvider") provider
+    (member (codes "inverseSourcesProvider") (boolean true)
+    (member (codes "runProvider") provider
+    (member (codes "testProvider") provider no_members))))))
+
+unfoldable pub initialize_result : Data
+initialize_result =
+    object (member (codes "bspVersion") (string (codes "2.2.0"))
+    (member (codes "capabilities") capabilities
+    (member (codes "displayName") (string (codes "oberon-bsp"))
+    (member (codes "version") (string (codes "1.0.0")) no_members))))
+
+-- ---- what a request is owed, judged as it is taken
+
+pub data Verdict : Type 0 where
+  -- an initialize that opens the session
+  opening : Verdict
+  -- a shutdown that closes it
+  closing : Verdict
+  -- a refusal with this code and message
+  refusal : ℤ → List ℕ → Verdict
+
+-- A session is opened once, and closed once while it is open. No other method is known.
+unfoldable pub verdict : List ℕ → Bool → Bool → Verdict
+verdict method opened closed =
+    if is_named (codes "build/initialize") method && not opened then opening
+    else (if is_named (codes "build/shutdown") method && (opened && not closed) then closing else refusal method_not_found (codes "method not found"))
