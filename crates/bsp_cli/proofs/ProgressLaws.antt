@@ -1,15 +1,15 @@
 -- How a session comes further.
-use Rattle.std.proofs.Common.{◌≡◌, ◌≢◌, ◌+◌, ◌++◌, ◌<◌, ◌≤◌, ℕ, List, [], ◌∷◌, length, flat_map, Option, Some, None, refl, sym, ap, ◌∙◌, subst, arith, append_assoc, append-nil, length-append}
+use Rattle.std.proofs.Common.{◌≡◌, ◌++◌, ℕ, List, [], ◌∷◌, flat_map, Option, refl, sym, ap, ◌∙◌, subst, arith, append_assoc, append-nil, length-append}
 use Rattle.std.proofs.lemmas.Grind.{flat_map-append}
-use Rattle.bsp_edge.specs.Streams.{Takes, Gives}
-use Rattle.bsp_edge.proofs.StreamLaws.{takes_append, gives_append, gives_nothing}
-use Rattle.rpc_frame.specs.Frames.{BeginsWith, HasNoFrame, IsBorder, FramesTo, FrameThen, IsSound, IsBroken, Waiting}
+use Rattle.bsp_edge.specs.Streams.{Gives}
+use Rattle.bsp_edge.proofs.StreamLaws.{takes_append, gives_append}
+use Rattle.rpc_frame.specs.Frames.{BeginsWith, HasNoFrame, IsBorder, FramesTo, IsSound, IsBroken, Waiting}
 use Rattle.rpc_frame.proofs.FrameLaws.{FramesTo-append, frames_more, sound_rest, broken_rest, rest_no_border}
 use Rattle.rpc_peer.specs.Said.{Said}
 use Rattle.session_law.specs.declared.InputEnd.{InputEnd}
 use Rattle.session_law.specs.Lawful.{text_of}
-use Rattle.session_law.specs.Order.{Event, take, ends, takes_of, writes_of, end_of}
-use Rattle.session_core.specs.Standing.{StandsFor, onto}
+use Rattle.session_law.specs.Order.{Event, take, ends, takes_of, writes_of}
+use Rattle.session_core.specs.Standing.{onto}
 use Rattle.session_core.specs.declared.session.Core.{Core}
 use Rattle.session_core.proofs.StandingLaws.{stood_lawful, takes_of-onto, writes_of-onto, end_of-onto}
 use Rattle.bsp_cli.specs.Progress.{Progress, Stopped, Feeds, Loses, fed}

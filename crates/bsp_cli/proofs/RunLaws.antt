@@ -1,9 +1,7 @@
 -- How a whole run ends.
-use Rattle.std.proofs.Common.{◌≡◌, ◌⊎◌, inl, inr, ◌<◌, ◌≤◌, ◌++◌, ℕ, ℤ, List, [], ◌∷◌, Bool, true, false, cond, IfSome, Result, Ok, Err, Option, Some, None, refl, sym, ap, ◌∙◌, subst, arith, lit≤, append-nil}
+use Rattle.std.proofs.Common.{◌≡◌, ◌⊎◌, inl, inr, ◌<◌, ◌≤◌, ℕ, ℤ, List, [], ◌∷◌, Bool, true, false, cond, IfSome, Result, Ok, Err, Option, Some, None, refl, sym, subst, arith, lit≤, append-nil}
 use Rattle.std.specs.Prelude.{codes}
 use Rattle.bsp_edge.specs.Faults.{Rose}
-use Rattle.bsp_edge.specs.Streams.{Gives}
-use Rattle.session_law.specs.declared.InputEnd.{InputEnd}
 use Rattle.session_law.specs.declared.InputEnd.TheVariants.{Border, Damaged, Failed}
 use Rattle.rpc_peer.specs.Meaning.{meaning}
 use Rattle.rpc_peer.specs.Said.{Said, request, notification, result, failure}
@@ -11,8 +9,7 @@ use Rattle.session_law.specs.Methods.{is_named}
 use Rattle.session_law.specs.Order.{Event, take, ends, write, end_of}
 use Rattle.session_law.specs.Past.{exit_status, closed_after, status_after}
 use Rattle.bsp_cli.specs.Notes.{GivesPart, Notes, NotedAs, whole, failed, note_for}
-use Rattle.bsp_cli.specs.Session.{Change, EndsFor, Session, Idle}
-use Rattle.bsp_cli.specs.Words.{AskNothing, ServesFolder}
+use Rattle.bsp_cli.specs.Session.{Change, EndsFor, Session}
 use Rattle.bsp_cli.specs.Writing.{GivesFront}
 
 -- a note that was written in part

@@ -1,21 +1,18 @@
 -- How a session ends.
-use Rattle.std.proofs.Common.{◌≡◌, ◌≢◌, ◌⊎◌, inl, inr, ◌+◌, ◌++◌, ◌<◌, ◌≤◌, ℕ, List, [], ◌∷◌, length, take, flat_map, Option, Some, None, IfSome, refl, sym, ap, ◌∙◌, subst, lit≤, arith, append_assoc, append-nil, length-append}
-use Rattle.std.proofs.lemmas.List.{take-append-le}
-use Rattle.bsp_edge.specs.Faults.{Rose}
-use Rattle.bsp_edge.specs.Streams.{Takes, Gives}
-use Rattle.rpc_frame.specs.Frames.{BeginsWith, HasNoFrame, FramesTo, Frames, IsSound, IsBroken, Waiting}
+use Rattle.std.proofs.Common.{◌≡◌, ◌≢◌, ◌⊎◌, inl, inr, ◌+◌, ◌++◌, ◌≤◌, ℕ, List, [], ◌∷◌, length, take, Option, Some, IfSome, refl, sym, ap, ◌∙◌, subst, lit≤, arith, append_assoc, append-nil, length-append}
+use Rattle.bsp_edge.specs.Streams.{Gives}
+use Rattle.rpc_frame.specs.Frames.{HasNoFrame, FramesTo, Frames, IsBroken, Waiting}
 use Rattle.rpc_frame.proofs.FrameLaws.{nil_no_frame, broken_front, broken_rest, broken_not_sound}
 use Rattle.session_law.specs.declared.InputEnd.{InputEnd}
 use Rattle.session_law.specs.declared.InputEnd.TheVariants.{Border, Damaged, Failed}
-use Rattle.session_law.specs.Lawful.{IsSettled, text_of}
-use Rattle.session_law.specs.Order.{Event, ends, takes_of, writes_of, end_of}
-use Rattle.session_law.specs.Past.{status_after, end_status}
+use Rattle.session_law.specs.Order.{ends, takes_of}
+use Rattle.session_law.specs.Past.{end_status}
 use Rattle.rpc_peer.specs.Said.{Said}
-use Rattle.session_core.specs.Standing.{StandsFor, onto, IsQuiet, IsAlive, status_of}
+use Rattle.session_core.specs.Standing.{StandsFor, onto, IsQuiet, IsAlive}
 use Rattle.session_core.specs.declared.session.Core.{Core}
 use Rattle.session_core.proofs.StandingLaws.{stood_lawful, known, takes_of-onto, end_of-onto, status_after-onto, status_within}
-use Rattle.bsp_cli.specs.Progress.{Progress, Stopped, EndsBy, IsOut, Finishes, ended, halted, HasEnded, MayEnd, fed}
-use Rattle.bsp_cli.specs.Session.{Change, Counts, EndsFor, HasNoMore, IsCut, IsDamage, Session}
+use Rattle.bsp_cli.specs.Progress.{Progress, Stopped, EndsBy, IsOut, Finishes, ended, halted, HasEnded, fed}
+use Rattle.bsp_cli.specs.Session.{Change, EndsFor, HasNoMore, IsDamage, Session}
 use Rattle.bsp_cli.specs.Writing.{Acts, HaltsAt, status_of_stop}
 use Rattle.bsp_cli.specs.declared.stop.Stop.{Stop}
 use Rattle.bsp_cli.specs.declared.stop.Stop.TheVariants.{Sink, NoMemory}
@@ -193,20 +190,20 @@ module _ (left0 left given0 given : Option (List ℕ)) (in_old in_new out_old ou
 
 -- ---- why the input ended
 
-has_more : (stream : Waiting) (input : Change) (read : List ℕ) → length read ≡ fed stream → IsOut stream input.new → HasNoMore input read
-has_more stream input read count (inl dry) = inl dry
-has_more stream input read count (inr limit) = inr (count ∙ limit)
+has_more : (stream : Waiting) (told : Change) (read : List ℕ) → length read ≡ fed stream → IsOut stream told.new → HasNoMore told read
+has_more stream told read count (inl dry) = inl dry
+has_more stream told read count (inr limit) = inr (count ∙ limit)
 
-damage : (stream : Waiting) (input : Change) (read : List ℕ) (bodies : List (List ℕ)) → FramesTo read bodies stream.bytes → length read ≡ fed stream
-    → IsBroken stream.bytes ⊎ ((stream.bytes ≢ []) × IsOut stream input.new) → IsDamage input read stream.bytes
-damage stream input read bodies frames count (inl broken) = inl (broken_front read bodies stream.bytes frames broken)
-damage stream input read bodies frames count (inr out) = inr (out.0, has_more stream input read count out.1)
+damage : (stream : Waiting) (told : Change) (read : List ℕ) (bodies : List (List ℕ)) → FramesTo read bodies stream.bytes → length read ≡ fed stream
+    → IsBroken stream.bytes ⊎ ((stream.bytes ≢ []) × IsOut stream told.new) → IsDamage told read stream.bytes
+damage stream told read bodies frames count (inl broken) = inl (broken_front read bodies stream.bytes frames broken)
+damage stream told read bodies frames count (inr out) = inr (out.0, has_more stream told read count out.1)
 
-pub ends_for : (how : InputEnd) (stream : Waiting) (input : Change) (read : List ℕ) (bodies : List (List ℕ)) → FramesTo read bodies stream.bytes → length read ≡ fed stream
-    → EndsBy how stream input → EndsFor (Some how) input read stream.bytes
-ends_for Border stream input read bodies frames count cause = (cause.0, has_more stream input read count cause.1)
-ends_for Damaged stream input read bodies frames count cause = damage stream input read bodies frames count cause
-ends_for Failed stream input read bodies frames count cause =
+pub ends_for : (how : InputEnd) (stream : Waiting) (told : Change) (read : List ℕ) (bodies : List (List ℕ)) → FramesTo read bodies stream.bytes → length read ≡ fed stream
+    → EndsBy how stream told → EndsFor (Some how) told read stream.bytes
+ends_for Border stream told read bodies frames count cause = (cause.0, has_more stream told read count cause.1)
+ends_for Damaged stream told read bodies frames count cause = damage stream told read bodies frames count cause
+ends_for Failed stream told read bodies frames count cause =
     (λ broken. broken_not_sound stream.bytes (broken_rest read bodies stream.bytes frames broken) cause.0, cause.1)
 
 -- ---- at the start

@@ -1,16 +1,15 @@
 -- How what is written piece by piece, or message by message, joins.
-use Rattle.std.proofs.Common.{◌≡◌, ◌≢◌, ◌++◌, ◌<◌, ◌≤◌, ℕ, List, [], ◌∷◌, length, take, drop, flat_map, Option, Some, None, Err, refl, sym, ap, ◌∙◌, subst, arith, append_assoc, append-nil}
+use Rattle.std.proofs.Common.{◌≡◌, ◌++◌, ◌<◌, ℕ, List, [], ◌∷◌, length, take, drop, flat_map, Option, Err, refl, sym, ap, ◌∙◌, subst, append_assoc, append-nil}
 use Rattle.std.proofs.lemmas.List.{take-append-drop}
 use Rattle.bsp_edge.specs.Streams.{Gives}
 use Rattle.bsp_edge.specs.Writing.{GivesFront as TookFront}
 use Rattle.bsp_edge.proofs.StreamLaws.{gives_append, gives_nothing}
 use Rattle.rpc_peer.specs.Said.{Said}
-use Rattle.session_law.specs.Lawful.{Lawful, IsFramed, text_of}
+use Rattle.session_law.specs.Lawful.{IsFramed, text_of}
 use Rattle.session_law.specs.Order.{Event, write}
 use Rattle.session_core.specs.Standing.{StandsFor, onto}
 use Rattle.session_core.specs.declared.session.Core.{Core}
 use Rattle.session_core.proofs.StandingLaws.{stood_lawful, onto-push}
-use Rattle.bsp_cli.specs.Session.{IsCut}
 use Rattle.bsp_cli.specs.declared.stop.Stop.{Stop}
 use Rattle.bsp_cli.specs.declared.stop.Stop.TheVariants.{Sink, NoMemory}
 use Rattle.bsp_cli.specs.Writing.{Acts, Flushes, GivesFront, GivesSoFar, Halts, HaltsAt, Sends}

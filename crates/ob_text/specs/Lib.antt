@@ -1,0 +1,4 @@
+pub mod Code
+pub mod Cursor
+pub mod Held
+pub mod Position

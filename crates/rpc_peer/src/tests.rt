@@ -1,6 +1,12 @@
+ghost use Rattle.std.specs.Prelude.{IfOk};
+ghost use Rattle.std.specs.Str.{IsUtf8};
+ghost use Rattle.rpc_peer.specs.Said.{said, HasTexts};
+
 use crate::{ErrorObject, Id, Message, Refusal, read_message, write_message};
-use ob_text::{Name, Text};
+use ob_text::{Name, NoMemory, Text};
 use serde_json::{Value, json};
+use std::alloc::Global;
+use std::process::Abort;
 use std::test::Fail;
 
 #[test]
@@ -53,61 +59,88 @@ fn refuses_other_bodies(rt: HostRuntime) {
     }
 }
 
+fn expect_body(
+    rt: &(impl Abort + AllocGlobal),
+    message: Message,
+    body: &[u8],
+) -> Result<(), NoMemory>
+    requires { HasTexts (said message) }
+{
+    let written = write_message(rt.alloc(), &message)?;
+    assert!(rt; written.as_slice() == body);
+    Ok(())
+}
+
+fn method(alloc: Global) -> Result<Text, NoMemory>
+    ensures { IfOk result IsUtf8 }
+{
+    Text::new(alloc, "x".as_bytes())
+}
+
 #[test]
-fn writes_each_message(rt: HostRuntime) -> Result<(), Fail> {
+fn writes_requests_and_notifications(rt: HostRuntime) -> Result<(), Fail> {
     let alloc = rt.alloc();
-    let method = || Text::new(alloc, b"x");
-    let cases: [(Message, &[u8]); 6] = [
-        (
-            Message::Request {
-                id: Id::Number(1),
-                method: method()?,
-                params: None,
-            },
-            b"{\"id\":1,\"jsonrpc\":\"2.0\",\"method\":\"x\"}",
-        ),
-        (
-            Message::Request {
-                id: Id::Text(Name::new(alloc, b"a\"b")?),
-                method: method()?,
-                params: Some(json!(in alloc; [1])?),
-            },
-            b"{\"id\":\"a\\\"b\",\"jsonrpc\":\"2.0\",\"method\":\"x\",\"params\":[1]}",
-        ),
-        (
-            Message::Notification {
-                method: method()?,
-                params: Some(json!(in alloc; {"z": 1, "a": 2})?),
-            },
-            b"{\"jsonrpc\":\"2.0\",\"method\":\"x\",\"params\":{\"a\":2,\"z\":1}}",
-        ),
-        (
-            Message::Notification {
-                method: method()?,
-                params: None,
-            },
-            b"{\"jsonrpc\":\"2.0\",\"method\":\"x\"}",
-        ),
-        (
-            Message::Response {
-                id: Some(Id::Number(9223372036854775807)),
-                answer: Ok(Value::Null),
-            },
-            b"{\"id\":9223372036854775807,\"jsonrpc\":\"2.0\",\"result\":null}",
-        ),
-        (
-            Message::Response {
-                id: None,
-                answer: Err(ErrorObject {
-                    code: -32700,
-                    message: Text::new(alloc, b"parse error")?,
-                }),
-            },
-            b"{\"error\":{\"code\":-32700,\"message\":\"parse error\"},\"id\":null,\"jsonrpc\":\"2.0\"}",
-        ),
-    ];
-    for (message, body) in &cases {
-        assert!(rt; write_message(alloc, message)?.as_slice() == *body);
-    }
+    let plain = Message::Request {
+        id: Id::Number(1),
+        method: method(alloc)?,
+        params: None,
+    };
+    expect_body(
+        &rt,
+        plain,
+        b"{\"id\":1,\"jsonrpc\":\"2.0\",\"method\":\"x\"}",
+    )?;
+    let full = Message::Request {
+        id: Id::Text(Name::new(alloc, "a\"b".as_bytes())?),
+        method: method(alloc)?,
+        params: Some(json!(in alloc; [1])?),
+    };
+    expect_body(
+        &rt,
+        full,
+        b"{\"id\":\"a\\\"b\",\"jsonrpc\":\"2.0\",\"method\":\"x\",\"params\":[1]}",
+    )?;
+    let told = Message::Notification {
+        method: method(alloc)?,
+        params: Some(json!(in alloc; {"z": 1, "a": 2})?),
+    };
+    expect_body(
+        &rt,
+        told,
+        b"{\"jsonrpc\":\"2.0\",\"method\":\"x\",\"params\":{\"a\":2,\"z\":1}}",
+    )?;
+    let brief = Message::Notification {
+        method: method(alloc)?,
+        params: None,
+    };
+    expect_body(&rt, brief, b"{\"jsonrpc\":\"2.0\",\"method\":\"x\"}")?;
+    Ok(())
+}
+
+#[test]
+fn writes_responses(rt: HostRuntime) -> Result<(), Fail> {
+    let alloc = rt.alloc();
+    let done = Message::Response {
+        id: Some(Id::Number(9223372036854775807)),
+        answer: Ok(Value::Null),
+    };
+    expect_body(
+        &rt,
+        done,
+        b"{\"id\":9223372036854775807,\"jsonrpc\":\"2.0\",\"result\":null}",
+    )?;
+    let error = ErrorObject {
+        code: -32700,
+        message: Text::new(alloc, "parse error".as_bytes())?,
+    };
+    let failed = Message::Response {
+        id: None,
+        answer: Err(error),
+    };
+    expect_body(
+        &rt,
+        failed,
+        b"{\"error\":{\"code\":-32700,\"message\":\"parse error\"},\"id\":null,\"jsonrpc\":\"2.0\"}",
+    )?;
     Ok(())
 }

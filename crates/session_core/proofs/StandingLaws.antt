@@ -1,5 +1,5 @@
 -- What follows for an order that a core stands for, and for one with more messages written.
-use Rattle.std.proofs.Common.{◌≡◌, ◌++◌, ◌≤◌, ℕ, ℤ, List, [], ◌∷◌, map, Bool, true, false, cond, Option, Some, None, IfSome, Result, Ok, Err, refl, ap, ◌∙◌, append_assoc, append-nil, sym, subst, lit≤}
+use Rattle.std.proofs.Common.{◌≡◌, ◌++◌, ◌≤◌, ℤ, List, [], ◌∷◌, map, Bool, true, false, cond, Some, None, IfSome, Result, Ok, Err, refl, ◌∙◌, append_assoc, append-nil, sym, subst, lit≤}
 use Rattle.std.specs.Prelude.{codes}
 use Rattle.rpc_peer.specs.declared.message.Message.{Message}
 use Rattle.rpc_peer.specs.Meaning.{meaning}

@@ -1,10 +1,8 @@
 -- What the core does in one step, in the words of the law.
-use Rattle.std.proofs.Common.{◌≡◌, ◌==◌, ◌||◌, ◌++◌, ℕ, ℤ, List, [], ◌∷◌, map, Bool, true, false, Option, Some, None, Result, Ok, Err, OnOk, OnErr, is_err, IfSome, option_to_list, refl, sym, ap, ◌∙◌, subst, rules}
+use Rattle.std.proofs.Common.{◌≡◌, ◌==◌, ◌||◌, ◌++◌, ℕ, ℤ, List, [], ◌∷◌, map, Bool, true, false, Option, Some, None, Result, Ok, Err, OnOk, OnErr, is_err, IfSome, option_to_list, refl, ap, ◌∙◌, subst}
 use Rattle.std.proofs.lemmas.Bool.{eq-eqb}
 use Rattle.std.proofs.lemmas.Bool.Decides.{Decides-int_eq}
 use Rattle.std.specs.Cmp.Lexicographic.{pointwise}
-use Rattle.std.specs.Ordering.{int_eq}
-use Rattle.serde_json.specs.Data.{Data, null}
 use Rattle.rpc_peer.specs.declared.message.Id.{Id}
 use Rattle.rpc_peer.specs.declared.message.Id.TheVariants.{Number, Text}
 use Rattle.rpc_peer.specs.declared.message.Message.{Message}
@@ -12,7 +10,7 @@ use Rattle.rpc_peer.specs.Meaning.{meaning}
 use Rattle.rpc_peer.specs.Said.{Said, said, request, notification, result, failure}
 use Rattle.session_law.specs.declared.InputEnd.TheVariants.{Border, Damaged, Failed}
 use Rattle.session_law.specs.declared.InputEnd.{InputEnd}
-use Rattle.session_law.specs.Lawful.{Lawful, EachAllowed, IsSettled, IsFramed}
+use Rattle.session_law.specs.Lawful.{Lawful, EachAllowed, IsFramed}
 use Rattle.session_law.specs.Methods.{Verdict, opening, closing, refusal, verdict, parse_error}
 use Rattle.session_law.specs.Order.{Event, take, ends, write}
 use Rattle.session_law.specs.Past.{Asked, same_id, is_opening, is_closing, exit_status, opened_by, nulls_for, nulls_for_end, end_status, open_after, opened_after, closed_after, nulls_after, status_after}

@@ -1,5 +1,5 @@
 -- What one step of a core does to what it keeps.
-use Rattle.std.specs.Prelude.{◌≡◌, ◌||◌, ◌++◌, ℕ, ℤ, List, [], ◌∷◌, map, codes, Bool, false, Option, Some, None, if◌then◌else◌, Result, Ok, Err}
+use Rattle.std.specs.Prelude.{◌≡◌, ◌||◌, ◌++◌, ℕ, ℤ, List, [], ◌∷◌, map, codes, Bool, Option, Some, None, if◌then◌else◌, Result, Ok, Err}
 use Rattle.serde_json.specs.Data.{null}
 use Rattle.rpc_peer.specs.declared.message.Id.{Id}
 use Rattle.rpc_peer.specs.Said.{Said, said, request, notification, result, failure}

@@ -7,3 +7,6 @@ mod session;
 mod verdicts;
 
 pub use session::Core;
+
+#[cfg(test)]
+mod tests;

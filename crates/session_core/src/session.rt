@@ -37,6 +37,7 @@ impl Core {
         ensures stands { StandsFor result [] }
         ensures quiet { IsQuiet result }
         ensures alive { IsAlive result }
+        ensures running { status_of result ≡ None }
     {
         Core {
             alloc,

@@ -1,8 +1,8 @@
 -- The methods of the Build Server Protocol 2.2 that the session answers, and what it answers them.
-use Rattle.std.specs.Prelude.{◌≡◌, ◌==◌, ◌&&◌, ℕ, ℤ, negsuc, List, codes, Bool, true, not, if◌then◌else◌}
+use Rattle.std.specs.Prelude.{◌==◌, ◌&&◌, ℕ, ℤ, negsuc, List, codes, Bool, true, not, if◌then◌else◌}
 use Rattle.std.specs.Cmp.Lexicographic.{pointwise}
 use Rattle.std.specs.Ordering.{int_eq}
-use Rattle.serde_json.specs.Data.{Data, null, boolean, string, array, object, Items, item, no_items, member, no_members}
+use Rattle.serde_json.specs.Data.{Data, boolean, string, array, object, item, no_items, member, no_members}
 
 abbrev pub is_named : List ℕ → List ℕ → Bool
 is_named name method = pointwise ◌==◌ name method

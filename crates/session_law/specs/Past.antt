@@ -1,5 +1,5 @@
 -- What a session owes, has opened and has ended with, as functions of what happened in it.
-use Rattle.std.specs.Prelude.{◌≡◌, ◌==◌, ◌||◌, ℕ, ℤ, List, [], ◌∷◌, ◌++◌, codes, Bool, true, false, Option, Some, None, is_some, Result, Ok, Err, drop, if◌then◌else◌}
+use Rattle.std.specs.Prelude.{◌==◌, ◌||◌, ℕ, ℤ, List, [], ◌∷◌, ◌++◌, codes, Bool, true, false, Option, Some, None, is_some, Result, Ok, Err, drop, if◌then◌else◌}
 use Rattle.std.specs.Cmp.Lexicographic.{pointwise}
 use Rattle.std.specs.Ordering.{int_eq}
 use Rattle.rpc_peer.specs.declared.message.Id.{Id}
@@ -8,7 +8,7 @@ use Rattle.rpc_peer.specs.Said.{Said, request, notification, result, failure}
 use Rattle.rpc_peer.specs.Meaning.{meaning}
 use Rattle.session_law.specs.declared.InputEnd.{InputEnd}
 use Rattle.session_law.specs.declared.InputEnd.TheVariants.{Border, Damaged, Failed}
-use Rattle.session_law.specs.Methods.{Verdict, opening, closing, refusal, verdict, is_named, invalid_request, parse_error}
+use Rattle.session_law.specs.Methods.{Verdict, opening, closing, verdict, is_named, invalid_request, parse_error}
 use Rattle.session_law.specs.Order.{Event, take, ends, write}
 
 -- A request that is open: it was taken, wasn't refused with the id null, and has no response yet.

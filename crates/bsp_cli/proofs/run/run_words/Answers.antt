@@ -1,4 +1,3 @@
-use Rattle.bsp_cli.specs.Session.{Change, Session}
 use Rattle.bsp_cli.proofs.RunLaws.{notes_fit, noted_input, noted_session, noted_sink}
 use Rattle.bsp_cli.proofs.run.run_words.Goals as goal
 

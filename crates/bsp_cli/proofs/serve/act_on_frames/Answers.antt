@@ -1,8 +1,6 @@
-use Rattle.std.proofs.Common.{◌≡◌, ◌∙◌, ◌∷◌, ℕ, List, Option, subst, sym, rules}
-use Rattle.rpc_frame.specs.Frames.{BeginsWith}
+use Rattle.std.proofs.Common.{◌∙◌, ◌∷◌}
 use Rattle.session_law.specs.Order.{take}
 use Rattle.session_core.specs.Standing.{onto}
-use Rattle.bsp_cli.specs.Progress.{Progress}
 use Rattle.bsp_cli.proofs.ProgressLaws.{progress_acts, stopped_at, stopped_here, sound_behind, broken_behind}
 use Rattle.bsp_cli.proofs.serve.act_on_frames.Goals as goal
 

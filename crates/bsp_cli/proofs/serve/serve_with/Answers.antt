@@ -1,4 +1,4 @@
-use Rattle.std.proofs.Common.{◌≡◌, ◌∙◌, ◌≤◌, [], Some, sym, refl, ap, subst, inr, rules, arith}
+use Rattle.std.proofs.Common.{◌≡◌, ◌≤◌, [], sym, refl, inr, arith}
 use Rattle.rpc_frame.proofs.FrameLaws.{nil_no_frame}
 use Rattle.session_core.proofs.StandingLaws.{known}
 use Rattle.rpc_frame.specs.declared.TheConstants.{STREAM_LIMIT}

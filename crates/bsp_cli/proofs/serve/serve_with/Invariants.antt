@@ -1,10 +1,9 @@
-use Rattle.std.proofs.Common.{◌≡◌, ◌-◌, ◌≤◌, ◌<◌, List, length}
+use Rattle.std.proofs.Common.{◌≡◌, ◌-◌, ◌≤◌, List}
 use Rattle.rpc_frame.specs.Frames.{HasNoFrame, IsSound}
 use Rattle.rpc_frame.specs.declared.TheConstants.{STREAM_LIMIT}
 use Rattle.session_law.specs.Order.{Event}
 use Rattle.session_core.specs.Standing.{StandsFor}
 use Rattle.bsp_cli.specs.Progress.{IsReady, Progress, fed}
-use Rattle.bsp_cli.proofs.SessionLaws.{session_exits}
 use Rattle.bsp_cli.proofs.serve.serve_with.Given as goal
 
 abbrev pub invariant-turns : goal.invariant-turns

@@ -1,4 +1,4 @@
-use Rattle.std.proofs.Common.{◌≡◌, ◌∙◌, sym, refl, rules}
+use Rattle.std.proofs.Common.{◌≡◌, refl}
 use Rattle.bsp_cli.proofs.ProgressLaws.{progress_feeds, progress_same, stopped_feeding}
 use Rattle.bsp_cli.proofs.serve.take_turn.Goals as goal
 

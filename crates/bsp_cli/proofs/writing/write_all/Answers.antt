@@ -1,4 +1,4 @@
-use Rattle.std.proofs.Common.{◌∙◌, rules}
+use Rattle.std.proofs.Common.{◌∙◌}
 use Rattle.bsp_cli.proofs.WritingLaws.{goes_on}
 use Rattle.bsp_cli.proofs.writing.write_all.Goals as goal
 

@@ -1,0 +1,4 @@
+pub mod Characters
+mod Holding
+mod Positions
+mod Units

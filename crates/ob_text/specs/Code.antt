@@ -1,0 +1,93 @@
+-- What the codes of diagnostics print as, and how much each matters.
+use Rattle.std.specs.Prelude.{ℕ, List, codes}
+use Rattle.ob_text.specs.declared.code.Code.{Code}
+use Rattle.ob_text.specs.declared.code.Code.TheVariants.{DocumentAbsent, DocumentTooLarge, DocumentNotText, BadCharacter, OpenComment, OpenString, BadNumber, NumberTooLarge, BadToken, ModuleName, EndName, NoModule, ImportBroken, ImportCyclic, UnusedImport, NameTwice, NoName, NotType, NotConstant, ConstantRange, TypeTooLarge, InterfaceTooLarge, BadBase, BadResult, BadReturn, BadSelector, NotVariable, ReadOnly, BadOperand, NotAssignable, NotBoolean, NotInteger, BadCall, ArgumentCount, BadArgument, BadCase, LabelTwice, BadControl}
+use Rattle.ob_text.specs.declared.code.Severity.{Severity}
+use Rattle.ob_text.specs.declared.code.Severity.TheVariants.{Error, Warning}
+
+-- the code as it is printed
+unfoldable pub name_of : Code → List ℕ
+name_of DocumentAbsent = codes "documentAbsent"
+name_of DocumentTooLarge = codes "documentTooLarge"
+name_of DocumentNotText = codes "documentNotText"
+name_of BadCharacter = codes "badCharacter"
+name_of OpenComment = codes "openComment"
+name_of OpenString = codes "openString"
+name_of BadNumber = codes "badNumber"
+name_of NumberTooLarge = codes "numberTooLarge"
+name_of BadToken = codes "badToken"
+name_of ModuleName = codes "moduleName"
+name_of EndName = codes "endName"
+name_of NoModule = codes "noModule"
+name_of ImportBroken = codes "importBroken"
+name_of ImportCyclic = codes "importCyclic"
+name_of UnusedImport = codes "unusedImport"
+name_of NameTwice = codes "nameTwice"
+name_of NoName = codes "noName"
+name_of NotType = codes "notType"
+name_of NotConstant = codes "notConstant"
+name_of ConstantRange = codes "constantRange"
+name_of TypeTooLarge = codes "typeTooLarge"
+name_of InterfaceTooLarge = codes "interfaceTooLarge"
+name_of BadBase = codes "badBase"
+name_of BadResult = codes "badResult"
+name_of BadReturn = codes "badReturn"
+name_of BadSelector = codes "badSelector"
+name_of NotVariable = codes "notVariable"
+name_of ReadOnly = codes "readOnly"
+name_of BadOperand = codes "badOperand"
+name_of NotAssignable = codes "notAssignable"
+name_of NotBoolean = codes "notBoolean"
+name_of NotInteger = codes "notInteger"
+name_of BadCall = codes "badCall"
+name_of ArgumentCount = codes "argumentCount"
+name_of BadArgument = codes "badArgument"
+name_of BadCase = codes "badCase"
+name_of LabelTwice = codes "labelTwice"
+name_of BadControl = codes "badControl"
+
+-- the text of the message; where it ends in a blank the name goes behind it
+unfoldable pub message_of : Code → List ℕ
+message_of DocumentAbsent = codes "document is absent"
+message_of DocumentTooLarge = codes "document is too large"
+message_of DocumentNotText = codes "document is not UTF-8"
+message_of BadCharacter = codes "bad character"
+message_of OpenComment = codes "comment is not closed"
+message_of OpenString = codes "string is not closed"
+message_of BadNumber = codes "bad number"
+message_of NumberTooLarge = codes "number is too large"
+message_of BadToken = codes "unexpected symbol"
+message_of ModuleName = codes "module name differs from the file"
+message_of EndName = codes "name after END differs"
+message_of NoModule = codes "no such module: "
+message_of ImportBroken = codes "imported module has errors: "
+message_of ImportCyclic = codes "import cycle: "
+message_of UnusedImport = codes "unused import: "
+message_of NameTwice = codes "name declared twice: "
+message_of NoName = codes "unknown name: "
+message_of NotType = codes "not a type: "
+message_of NotConstant = codes "constant expected"
+message_of ConstantRange = codes "constant out of range"
+message_of TypeTooLarge = codes "type is too large"
+message_of InterfaceTooLarge = codes "interface is too large"
+message_of BadBase = codes "not a record type: "
+message_of BadResult = codes "result type must be scalar"
+message_of BadReturn = codes "RETURN does not fit"
+message_of BadSelector = codes "selector does not fit"
+message_of NotVariable = codes "variable expected"
+message_of ReadOnly = codes "variable is read-only"
+message_of BadOperand = codes "operand types do not fit"
+message_of NotAssignable = codes "value is not assignable"
+message_of NotBoolean = codes "BOOLEAN expected"
+message_of NotInteger = codes "INTEGER expected"
+message_of BadCall = codes "call does not fit"
+message_of ArgumentCount = codes "wrong number of arguments"
+message_of BadArgument = codes "argument does not fit"
+message_of BadCase = codes "label does not fit"
+message_of LabelTwice = codes "label overlaps"
+message_of BadControl = codes "control variable must be an INTEGER variable"
+
+-- an unused import is a warning, and all else is an error
+abbrev pub severity_of : Code → Severity
+severity_of UnusedImport = Warning
+severity_of _ = Error

@@ -1,0 +1,224 @@
+ghost use Rattle.std.specs.Prelude.{◌≡◌, ◌-◌, ◌≤◌, ◌<◌, ◌+◌, length, map, List, ℕ};
+ghost use Rattle.std.specs.List.{flat_map};
+ghost use Rattle.std.specs.Str.{all_scalars, encode_utf8_all};
+ghost use Rattle.std.specs.Char.Escape.{encode_utf16};
+ghost use Rattle.std.specs.Prelude.{true, slice_range};
+ghost use Rattle.ob_text.specs.Position.{position_at, range_at, line_start, ends_line, begins_unit, IsPart};
+
+use crate::position::{Position, Range};
+use crate::span::Span;
+use std::marker::Model;
+
+/// A place in a text that moves forward, with its position. It finds the positions of places that come in
+/// order in one sweep of the text.
+#[derive(Drop)]
+pub struct Cursor<'a> {
+    text: &'a [u8],
+    place: u32,
+    position: Position,
+}
+
+impl<'a> Model for Cursor<'a> {
+    ghost use Rattle.ob_text.specs.Cursor.{Reached, reached, IsAtPosition};
+
+    ghost Value = { Reached };
+
+    ghost view = { reached };
+
+    ghost invariant = { IsAtPosition };
+}
+
+impl<'a> Cursor<'a> {
+    /// Stands at the beginning of the text.
+    pub fn new(text: &'a [u8]) -> Cursor<'a>
+        ensures text { result.text ≡ text.now }
+        ensures place { result.place ≡ 0 }
+    {
+        Cursor {
+            text,
+            place: 0,
+            position: Position {
+                line: 0,
+                character: 0,
+            },
+        }
+    }
+
+    /// Goes forward to a place, and gives its position.
+    pub fn move_to(&mut self, place: u32) -> Position
+        requires forward { self.old.place ≤ place }
+        requires within { place ≤ length self.old.text }
+        ensures position { result ≡ position_at self.old.text place }
+        ensures text { self.new.text ≡ self.old.text }
+        ensures place { self.new.place ≡ place }
+    {
+        while self.place < place {
+            self.step();
+        }
+        self.position
+    }
+
+    /// Goes forward to the start of a part, and gives the part's range.
+    pub fn range_of(&mut self, span: Span) -> Range
+        requires forward { self.old.place ≤ span.start }
+        requires part { IsPart self.old.text span }
+        ensures range { result ≡ range_at self.old.text span }
+        ensures text { self.new.text ≡ self.old.text }
+        ensures place { self.new.place ≡ span.start }
+    {
+        let start = self.move_to(span.start);
+        let mut ahead = Cursor {
+            text: self.text,
+            place: self.place,
+            position: self.position,
+        };
+        let end = ahead.move_to(span.end);
+        Range { start, end }
+    }
+
+    /// Goes one byte forward.
+    fn step(&mut self)
+        requires room { self.old.place < length self.old.text }
+        requires counted { self.old.place + 1 < 4294967296 }
+        ensures text { self.new.text ≡ self.old.text }
+        ensures place { self.new.place ≡ self.old.place + 1 }
+    {
+        let at = self.place as usize;
+        self.position = behind(self.position, self.text, at);
+        self.place += 1;
+    }
+}
+
+/// The position behind the byte at `at`, which is at `position`.
+fn behind(position: Position, text: &[u8], at: usize) -> Position
+    requires within { at < length text.now }
+    requires counted { at + 1 < 4294967296 }
+    requires before { position ≡ position_at text.now at }
+    ensures { result ≡ position_at text.now (at + 1) }
+{
+    if ends_line(text, at) {
+        Position {
+            line: position.line + 1,
+            character: 0,
+        }
+    } else if begins_unit(text, at) {
+        Position {
+            line: position.line,
+            character: position.character + 1,
+        }
+    } else {
+        position
+    }
+}
+
+/// Whether a line ends behind the byte at `at`.
+fn ends_line(text: &[u8], at: usize) -> bool
+    requires { at < length text.now }
+    ensures { result ≡ ends_line text.now at }
+{
+    match text[at] {
+        b'\n' => true,
+        b'\r' => text.get(at + 1).copied() != Some(b'\n'),
+        _ => false,
+    }
+}
+
+/// Whether a unit of UTF-16 begins at the byte at `at`.
+fn begins_unit(text: &[u8], at: usize) -> bool
+    requires { at < length text.now }
+    ensures { result ≡ begins_unit text.now at }
+{
+    match text[at] {
+        128..=191 => at > 0 && text[at - 1] >= 240,
+        _ => true,
+    }
+}
+
+/// The position of a place in a text (Language Server Protocol 3.17, section Position). Takes no memory.
+pub fn position_of(text: &[u8], place: u32) -> Position
+    requires { place ≤ length text.now }
+    ensures position { result ≡ position_at text.now place }
+    // The units counted are those of UTF-16.
+    ensures utf16 { (characters : List ℕ) → all_scalars characters ≡ true
+        → slice_range text.now (line_start text.now place) place ≡ encode_utf8_all characters
+        → result.character ≡ length (flat_map encode_utf16 characters) }
+{
+    Cursor::new(text).move_to(place)
+}
+
+#[cfg(test)]
+mod tests {
+    use super::*;
+
+    /// A text, a place in it, and the line and the character of that place.
+    const PLACES: [(&str, u32, u32, u32); 19] = [
+        ("", 0, 0, 0),
+        ("ab", 2, 0, 2),
+        // The example of the Language Server Protocol 3.17, section Position.
+        ("a\u{10400}b", 1, 0, 1),
+        ("a\u{10400}b", 5, 0, 3),
+        ("a\u{10400}b", 6, 0, 4),
+        ("\u{e9}\u{20ac}x", 2, 0, 1),
+        ("\u{e9}\u{20ac}x", 5, 0, 2),
+        ("\u{feff}x", 3, 0, 1),
+        ("a\nb", 1, 0, 1),
+        ("a\nb", 2, 1, 0),
+        ("a\rb", 2, 1, 0),
+        ("a\r\nb", 2, 0, 2),
+        ("a\r\nb", 3, 1, 0),
+        ("a\r\nb", 4, 1, 1),
+        ("\r\r\n\n", 1, 1, 0),
+        ("\r\r\n\n", 2, 1, 1),
+        ("\r\r\n\n", 3, 2, 0),
+        ("\r\r\n\n", 4, 3, 0),
+        ("a\r", 2, 1, 0),
+    ];
+
+    #[test]
+    fn counts_lines_and_units(rt: HostRuntime) {
+        for (text, place, line, character) in PLACES {
+            assert!(rt; place as usize <= text.len());
+            let position = position_of(text.as_bytes(), place);
+            assert_eq!(rt;
+                position,
+                Position { line, character },
+                "{text:?} at {place}"
+            );
+        }
+    }
+
+    #[test]
+    fn finds_ranges_in_order(rt: HostRuntime) {
+        let mut cursor = Cursor::new(b"a\nbc d");
+        let outer = cursor.range_of(Span { start: 0, end: 6 });
+        assert_eq!(rt;
+            outer.start,
+            Position {
+                line: 0,
+                character: 0
+            }
+        );
+        assert_eq!(rt;
+            outer.end,
+            Position {
+                line: 1,
+                character: 4
+            }
+        );
+        let inner = cursor.range_of(Span { start: 2, end: 4 });
+        assert_eq!(rt;
+            inner.start,
+            Position {
+                line: 1,
+                character: 0
+            }
+        );
+        assert_eq!(rt;
+            inner.end,
+            Position {
+                line: 1,
+                character: 2
+            }
+        );
+    }
+}

@@ -1,0 +1,9 @@
+pub mod Fronts
+pub mod Going
+pub mod LongestRuns
+pub mod Nesting
+pub mod OneCharacter
+pub mod OneCut
+pub mod Spelled
+pub mod Sweeping
+pub mod Values

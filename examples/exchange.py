@@ -1,0 +1,91 @@
+"""Talks to a build server as an editor does, and prints the exchange for a person to read.
+
+usage: exchange.py PROGRAM FOLDER
+"""
+import json
+import pathlib
+import subprocess
+import sys
+
+
+def frame(message):
+    body = json.dumps(message).encode()
+    return b"Content-Length: %d\r\n\r\n" % len(body) + body
+
+
+def next_message(stream):
+    """The next message of a stream of frames, or None at its end."""
+    length = None
+    while (line := stream.readline()) not in (b"\r\n", b""):
+        name, value = line.split(b":", 1)
+        if name.lower() == b"content-length":
+            length = int(value)
+    return None if length is None else json.loads(stream.read(length))
+
+
+def show(who, what, value):
+    print(f"{who:>6}  {what}")
+    if value is not None:
+        for line in json.dumps(value, indent=2).splitlines():
+            print("        " + line)
+    print()
+
+
+class Client:
+    def __init__(self, program, folder):
+        self.server = subprocess.Popen(
+            [program, "serve", folder], stdin=subprocess.PIPE, stdout=subprocess.PIPE
+        )
+        self.last_id = 0
+
+    def send(self, message):
+        self.server.stdin.write(frame(message))
+        self.server.stdin.flush()
+
+    def request(self, method, params=None):
+        self.last_id += 1
+        message = {"jsonrpc": "2.0", "id": self.last_id, "method": method}
+        if params is not None:
+            message["params"] = params
+        show("client", f"request {self.last_id}: {method}", params)
+        self.send(message)
+        while (answer := next_message(self.server.stdout)) is not None:
+            if answer.get("id") == self.last_id and "method" not in answer:
+                kind = "error" if "error" in answer else "result"
+                show("server", f"{kind} of request {self.last_id}", answer[kind])
+                return answer
+            show("server", answer.get("method", "response"), answer.get("params"))
+        sys.exit("the server ended without an answer")
+
+    def notify(self, method):
+        show("client", f"notification: {method}", None)
+        self.send({"jsonrpc": "2.0", "method": method})
+
+    def status(self):
+        self.server.stdin.close()
+        return self.server.wait()
+
+
+def main():
+    if len(sys.argv) != 3:
+        sys.exit(__doc__)
+    program, folder = sys.argv[1:]
+    client = Client(program, folder)
+    client.request(
+        "build/initialize",
+        {
+            "displayName": "demo",
+            "version": "1",
+            "bspVersion": "2.2.0",
+            "rootUri": pathlib.Path(folder).resolve().as_uri(),
+            "capabilities": {"languageIds": ["oberon"]},
+        },
+    )
+    client.request("build/shutdown")
+    client.notify("build/exit")
+    status = client.status()
+    print(f"The server ended with status {status}.")
+    sys.exit(status)
+
+
+main()

@@ -1,0 +1,7 @@
+MODULE Hello;
+  IMPORT Out;
+
+BEGIN
+  Out.String("Hello, world");
+  Out.Ln
+END Hello.
