@@ -1,7 +1,6 @@
 -- The bytes of a character of UTF-8: the first tells how many there are, and the others go on with it.
-use Rattle.std.proofs.Common.{◌≡◌, ℕ, ◌+◌, ◌/◌, ◌%◌, ◌<◌, ◌≤◌, Bool, true, false, ltb, [], ◌∷◌, refl, arith}
+use Rattle.std.proofs.Common.{◌≡◌, ℕ, ◌+◌, ◌/◌, ◌%◌, ◌<◌, ◌≤◌, Bool, true, false, ltb, leb, [], ◌∷◌, refl, arith}
 use Rattle.std.specs.Char.{encode_utf8}
-use Rattle.std.proofs.Common.{leb}
 use Rattle.ob_text.specs.Position.{is_continuation}
 use Rattle.std.proofs.lemmas.Bool.{and_from, and_left, and_right, le-leb, lt-leb, lt-ltb, le-ltb, ltb-true, ltb-false}
 

@@ -1,11 +1,11 @@
 ghost use Rattle.std.specs.Prelude.{◌≡◌};
 ghost use Rattle.ob_text.specs.Code.{name_of, message_of, severity_of};
 
-/// What a diagnostic says of its place. The codes stand in the order of their numbers, from 1 on: first
-/// those of a document, then those of its lexis, its grammar and its types.
+/// What a diagnostic says of its place. The codes stand in the order of their numbers: first those of a
+/// document, then those of its lexis, its grammar and its types. The number is `code as u8`.
 #[derive(Clone, Copy, Debug, PartialEq, Eq)]
 pub enum Code {
-    DocumentAbsent,
+    DocumentAbsent = 1,
     DocumentTooLarge,
     DocumentNotText,
     BadCharacter,
@@ -170,5 +170,7 @@ mod tests {
         assert_eq!(rt; Code::UnusedImport.severity() as u8, 2);
         assert_eq!(rt; Code::BadControl.severity() as u8, 1);
         assert_eq!(rt; Severity::Error as u8, 1);
+        assert_eq!(rt; Code::DocumentAbsent as u8, 1);
+        assert_eq!(rt; Code::BadControl as u8, 38);
     }
 }

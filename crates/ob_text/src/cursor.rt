@@ -1,8 +1,7 @@
-ghost use Rattle.std.specs.Prelude.{◌≡◌, ◌-◌, ◌≤◌, ◌<◌, ◌+◌, length, map, List, ℕ};
+ghost use Rattle.std.specs.Prelude.{◌≡◌, ◌≤◌, ◌<◌, ◌+◌, ◌^◌, List, ℕ, true, length, slice_range};
 ghost use Rattle.std.specs.List.{flat_map};
 ghost use Rattle.std.specs.Str.{all_scalars, encode_utf8_all};
 ghost use Rattle.std.specs.Char.Escape.{encode_utf16};
-ghost use Rattle.std.specs.Prelude.{true, slice_range};
 ghost use Rattle.ob_text.specs.Position.{position_at, range_at, line_start, ends_line, begins_unit, IsPart};
 
 use crate::position::{Position, Range};
@@ -79,7 +78,7 @@ impl<'a> Cursor<'a> {
     /// Goes one byte forward.
     fn step(&mut self)
         requires room { self.old.place < length self.old.text }
-        requires counted { self.old.place + 1 < 4294967296 }
+        requires counted { self.old.place + 1 < 2 ^ 32 }
         ensures text { self.new.text ≡ self.old.text }
         ensures place { self.new.place ≡ self.old.place + 1 }
     {
@@ -92,7 +91,7 @@ impl<'a> Cursor<'a> {
 /// The position behind the byte at `at`, which is at `position`.
 fn behind(position: Position, text: &[u8], at: usize) -> Position
     requires within { at < length text.now }
-    requires counted { at + 1 < 4294967296 }
+    requires counted { at + 1 < 2 ^ 32 }
     requires before { position ≡ position_at text.now at }
     ensures { result ≡ position_at text.now (at + 1) }
 {

@@ -18,7 +18,8 @@ use Rattle.oberon_scan.specs.Spelling.{spelling, symbol_text}
 use Rattle.oberon_scan.specs.Numbers.{number_of, signed, largest_decimal, largest_hexadecimal, largest_character}
 use Rattle.oberon_scan.specs.Comments.{opens_comment, Closes, StaysOpen}
 
--- White space or a comment stands at the front of the text, before rest.
+-- White space (tab, line feed, form feed, carriage return and blank) or a comment stands at the front of the
+-- text, before rest.
 pub data IsGap : List ℕ → List ℕ → Type 0 where
   blanks : {text rest : List ℕ} (run : List ℕ) → Begins is_ascii_whitespace text → IsRun is_ascii_whitespace text run rest → IsGap text rest
   comment : {text rest : List ℕ} (body : List ℕ) → text ≡ codes "(*" ++ body → Closes 1 body rest → IsGap text rest

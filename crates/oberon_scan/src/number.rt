@@ -94,6 +94,6 @@ fn digit_of(byte: u8) -> u8
     if byte.is_ascii_digit() {
         byte - b'0'
     } else {
-        byte.saturating_sub(55)
+        byte.saturating_sub(b'A' - 10)
     }
 }
