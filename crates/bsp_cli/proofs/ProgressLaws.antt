@@ -1,10 +1,14 @@
 -- How a session comes further.
-use Rattle.std.proofs.Common.{◌≡◌, ◌++◌, ℕ, List, [], ◌∷◌, flat_map, Option, refl, sym, ap, ◌∙◌, subst, arith, append_assoc, append-nil, length-append}
+use Rattle.std.proofs.Common.{◌≡◌, ◌+◌, ◌++◌, ℕ, List, [], ◌∷◌, length, flat_map, Option, refl, sym, ap, ◌∙◌, subst, arith, append_assoc, append-nil, length-append}
 use Rattle.std.proofs.lemmas.Grind.{flat_map-append}
 use Rattle.bsp_edge.specs.Streams.{Gives}
 use Rattle.bsp_edge.proofs.StreamLaws.{takes_append, gives_append}
-use Rattle.rpc_frame.specs.Frames.{BeginsWith, HasNoFrame, IsBorder, FramesTo, IsSound, IsBroken, Waiting}
-use Rattle.rpc_frame.proofs.FrameLaws.{FramesTo-append, frames_more, sound_rest, broken_rest, rest_no_border}
+use Rattle.rpc_frame.specs.Frames.{BeginsWith, HasNoFrame, IsBorder, FramesTo, IsSound, Waiting}
+use Rattle.rpc_frame.specs.declared.damage.Damage.{Damage}
+use Rattle.rpc_frame.specs.Damages.{DamageAt, HasDamage}
+use Rattle.rpc_frame.proofs.BrokenLaws.{broken_damaged}
+use Rattle.rpc_frame.proofs.DamageLaws.{damage_behind, damage_broken, damage_kind, damage_place}
+use Rattle.rpc_frame.proofs.FrameLaws.{FramesTo-append, frames_more, sound_behind as sound_behind_frames, broken_rest, rest_no_border}
 use Rattle.rpc_peer.specs.Said.{Said}
 use Rattle.session_law.specs.declared.InputEnd.{InputEnd}
 use Rattle.session_law.specs.Lawful.{text_of}
@@ -90,10 +94,24 @@ stopped_here core stream left0 left given0 given so =
 
 -- what stands behind a frame is sound, or broken, as the whole is
 pub sound_behind : (bytes body after : List ℕ) → BeginsWith bytes body after → IsSound bytes → IsSound after
-sound_behind bytes body after begins sound = sound_rest bytes (body ∷ []) after sound.more sound.bodies (one_frame bytes body after begins) sound.frames
+sound_behind bytes body after begins sound = sound_behind_frames bytes (body ∷ []) after (one_frame bytes body after begins) sound
 
-pub broken_behind : (bytes body after : List ℕ) → BeginsWith bytes body after → IsBroken bytes → IsBroken after
-broken_behind bytes body after begins broken = broken_rest bytes (body ∷ []) after (one_frame bytes body after begins) broken
+-- the damage of a stream is that of what waits behind a frame
+pub damage_left : (old new : Waiting) (body : List ℕ) → BeginsWith old.bytes body new.bytes → fed new ≡ fed old → (damage : Damage) → HasDamage old damage → HasDamage new damage
+damage_left old new body begins same damage has =
+    let frame = begins.frame in
+    let broken = broken_rest old.bytes (body ∷ []) new.bytes (one_frame old.bytes body new.bytes begins) (damage_broken old.bytes has.place damage.kind has.at) in
+    let left = (broken_damaged new.bytes).0 broken in
+    let alone : FramesTo frame (body ∷ []) [] = record { after = []; begins = record { frame = frame; «is» = begins.«is»; whole = sym (append-nil frame) }; others = refl } in
+    let here = damage_behind frame (body ∷ []) new.bytes left.place left.kind alone left.at in
+    let there : DamageAt (frame ++ new.bytes) has.place damage.kind = subst (λ bytes. DamageAt bytes has.place damage.kind) begins.whole has.at in
+    let place : has.place ≡ length frame + left.place = damage_place (frame ++ new.bytes) has.place (length frame + left.place) damage.kind left.kind there here in
+    let kind : damage.kind ≡ left.kind = damage_kind (frame ++ new.bytes) has.place (length frame + left.place) damage.kind left.kind there here in
+    record {
+      place = left.place;
+      counted = omega (arith, has.counted, place, same, ap length begins.whole, length-append frame new.bytes);
+      at = subst (λ k. DamageAt new.bytes left.place k) (sym kind) left.at;
+    }
 
 -- where no frame begins, only nothing is frames and nothing more
 pub border_empty : (bytes : List ℕ) → HasNoFrame bytes → IsBorder bytes → bytes ≡ []

@@ -2,6 +2,7 @@
 use Rattle.std.proofs.Common.{◌≡◌, ◌⊎◌, inl, inr, ◌<◌, ◌≤◌, ℕ, ℤ, List, [], ◌∷◌, Bool, true, false, cond, IfSome, Result, Ok, Err, Option, Some, None, refl, sym, subst, arith, lit≤, append-nil}
 use Rattle.std.specs.Prelude.{codes}
 use Rattle.bsp_edge.specs.Faults.{Rose}
+use Rattle.rpc_frame.specs.declared.damage.Damage.{Damage}
 use Rattle.session_law.specs.declared.InputEnd.TheVariants.{Border, Damaged, Failed}
 use Rattle.rpc_peer.specs.Meaning.{meaning}
 use Rattle.rpc_peer.specs.Said.{Said, request, notification, result, failure}
@@ -9,22 +10,27 @@ use Rattle.session_law.specs.Methods.{is_named}
 use Rattle.session_law.specs.Order.{Event, take, ends, write, end_of}
 use Rattle.session_law.specs.Past.{exit_status, closed_after, status_after}
 use Rattle.bsp_cli.specs.Notes.{GivesPart, Notes, NotedAs, whole, failed, note_for}
+use Rattle.bsp_cli.specs.Served.{Served}
 use Rattle.bsp_cli.specs.Session.{Change, EndsFor, Session}
 use Rattle.bsp_cli.specs.Writing.{GivesFront}
 
 -- a note that was written in part
-pub part_given : (old new : Option (List ℕ)) (status : ℕ) → GivesFront old new (note_for status) → GivesPart old new
-part_given old new status gives = record { status = status; part = gives.front; rest = gives.rest; whole = gives.whole; given = gives.given }
+pub part_given : (old new : Option (List ℕ)) (status : ℕ) (damage : Option Damage) → GivesFront old new (note_for status damage) → GivesPart old new
+part_given old new status damage gives =
+    record { status = status; damage = damage; part = gives.front; rest = gives.rest; whole = gives.whole; given = gives.given }
 
 -- the notes fit the status that the run ends with
-pub notes_fit : (old new : Option (List ℕ)) (f g owed status : ℕ) → NotedAs old new f g owed status → Notes old new status
-notes_fit old new f g owed status (whole given) =
-    record { whole = λ _. given; part = λ four. record { status = status; part = note_for status; rest = []; whole = sym (append-nil (note_for status)); given = given } }
-notes_fit old new f g owed status (failed part rose) = record { whole = λ other. absurd (other refl); part = λ _. part }
+pub notes_fit : (old new : Option (List ℕ)) (f g owed status : ℕ) (damage : Option Damage) → NotedAs old new f g owed damage status → Notes old new status damage
+notes_fit old new f g owed status damage (whole given) =
+    record {
+      whole = λ _. given;
+      part = λ four. record { status = status; damage = damage; part = note_for status damage; rest = []; whole = sym (append-nil (note_for status damage)); given = given };
+    }
+notes_fit old new f g owed status damage (failed part rose) = record { whole = λ other. absurd (other refl); part = λ _. part }
 
-module _ (input output : Change) (taken : ℕ) where
+module _ (input output : Change) (taken : ℕ) (damage : Option Damage) where
   -- the session is the same where its note failed
-  pub noted_session : (old new : Option (List ℕ)) (f g owed status : ℕ) → NotedAs old new f g owed status → Session input output owed taken → Session input output status taken
+  noted_session : (old new : Option (List ℕ)) (f g owed status : ℕ) → NotedAs old new f g owed damage status → Session input output owed taken damage → Session input output status taken damage
   noted_session old new f g owed status (whole given) session = session
   noted_session old new f g owed status (failed part rose) session =
       record {
@@ -44,6 +50,15 @@ module _ (input output : Change) (taken : ℕ) where
         settled = λ small. absurd (omega arith);
         agrees = λ small. absurd (omega arith);
         no_other = lit≤ tt;
+      }
+
+  pub noted_run : (notes : Change) (owed status : ℕ) → NotedAs notes.old notes.new notes.faults_old notes.faults_new owed damage status → Session input output owed taken damage
+      → Served input output notes status taken
+  noted_run notes owed status noted session =
+      record {
+        damage = damage;
+        session = noted_session notes.old notes.new notes.faults_old notes.faults_new owed status noted session;
+        noted = notes_fit notes.old notes.new notes.faults_old notes.faults_new owed status damage noted;
       }
 
 some_apart : (m n : ℕ) → m < n → Some m ≡ Some n → ⊥
@@ -73,18 +88,23 @@ failed_end (ends Failed ∷ order) three = refl
 failed_end (write m ∷ order) three = failed_end order three
 
 -- a session that ends with 3 ends so for a failed read
-pub failed_for : (input output : Change) (taken : ℕ) → Session input output 3 taken → Rose input.faults_old input.faults_new
-failed_for input output taken session =
-    let cause = subst (λ how. EndsFor how input session.read session.rest) (failed_end session.order (session.agrees (omega arith))) session.ends_for in
+failed_for : (input output : Change) (taken : ℕ) (damage : Option Damage) → Session input output 3 taken damage → Rose input.faults_old input.faults_new
+failed_for input output taken damage session =
+    let cause = subst (λ how. EndsFor how damage input session.read session.rest) (failed_end session.order (session.agrees (omega arith))) session.ends_for in
     cause.1
 
-pub noted_input : (old new : Option (List ℕ)) (f g owed status : ℕ) (input output : Change) (taken : ℕ) → NotedAs old new f g owed status → Session input output owed taken → status ≡ 3
-    → Rose input.faults_old input.faults_new
-noted_input old new f g owed status input output taken (whole given) session three =
-    failed_for input output taken (subst (λ s. Session input output s taken) three session)
-noted_input old new f g owed status input output taken (failed part rose) session three = absurd (omega arith)
+pub noted_input : (old new : Option (List ℕ)) (f g owed status : ℕ) (input output : Change) (taken : ℕ) (damage : Option Damage) → NotedAs old new f g owed damage status
+    → Session input output owed taken damage → status ≡ 3 → Rose input.faults_old input.faults_new
+noted_input old new f g owed status input output taken damage (whole given) session three =
+    failed_for input output taken damage (subst (λ s. Session input output s taken damage) three session)
+noted_input old new f g owed status input output taken damage (failed part rose) session three = absurd (omega arith)
 
 -- a sink that failed is the output or the notes
-pub noted_sink : (old new : Option (List ℕ)) (f g owed status h k : ℕ) → NotedAs old new f g owed status → (owed ≡ 4 → Rose h k) → status ≡ 4 → Rose h k ⊎ Rose f g
-noted_sink old new f g owed status h k (whole given) rose four = inl (rose four)
-noted_sink old new f g owed status h k (failed part risen) rose four = inr risen
+pub noted_sink : (old new : Option (List ℕ)) (f g owed status h k : ℕ) (damage : Option Damage) → NotedAs old new f g owed damage status → (owed ≡ 4 → Rose h k) → status ≡ 4 → Rose h k ⊎ Rose f g
+noted_sink old new f g owed status h k damage (whole given) rose four = inl (rose four)
+noted_sink old new f g owed status h k damage (failed part risen) rose four = inr risen
+
+-- a run whose words ask for nothing has the usage's status, or that of a sink that failed
+pub idle_status : (old new : Option (List ℕ)) (f g status : ℕ) → NotedAs old new f g 6 None status → (status ≡ 6) ⊎ (status ≡ 4)
+idle_status old new f g status (whole given) = inl refl
+idle_status old new f g status (failed part rose) = inr refl

@@ -1,10 +1,13 @@
 -- How a session ends.
-use Rattle.std.proofs.Common.{◌≡◌, ◌≢◌, ◌⊎◌, inl, inr, ◌+◌, ◌++◌, ◌≤◌, ℕ, List, [], ◌∷◌, length, take, Option, Some, IfSome, refl, sym, ap, ◌∙◌, subst, lit≤, arith, append_assoc, append-nil, length-append}
+use Rattle.std.proofs.Common.{◌≡◌, inl, inr, ◌+◌, ◌++◌, ◌≤◌, ℕ, List, [], ◌∷◌, length, take, Option, Some, None, IfSome, refl, sym, ap, ◌∙◌, subst, lit≤, arith, append_assoc, append-nil, length-append}
 use Rattle.bsp_edge.specs.Streams.{Gives}
-use Rattle.rpc_frame.specs.Frames.{HasNoFrame, FramesTo, Frames, IsBroken, Waiting}
-use Rattle.rpc_frame.proofs.FrameLaws.{nil_no_frame, broken_front, broken_rest, broken_not_sound}
+use Rattle.rpc_frame.specs.Frames.{HasNoFrame, FramesTo, Frames, Waiting}
+use Rattle.rpc_frame.specs.declared.damage.Damage.{Damage}
+use Rattle.rpc_frame.specs.Damages.{DamageAt}
+use Rattle.rpc_frame.proofs.DamageLaws.{damage_behind}
+use Rattle.rpc_frame.proofs.FrameLaws.{nil_no_frame, broken_rest, broken_not_sound}
 use Rattle.session_law.specs.declared.InputEnd.{InputEnd}
-use Rattle.session_law.specs.declared.InputEnd.TheVariants.{Border, Damaged, Failed}
+use Rattle.session_law.specs.declared.InputEnd.TheVariants as input_end
 use Rattle.session_law.specs.Order.{ends, takes_of}
 use Rattle.session_law.specs.Past.{end_status}
 use Rattle.rpc_peer.specs.Said.{Said}
@@ -14,6 +17,9 @@ use Rattle.session_core.proofs.StandingLaws.{stood_lawful, known, takes_of-onto,
 use Rattle.bsp_cli.specs.Progress.{Progress, Stopped, EndsBy, IsOut, Finishes, ended, halted, HasEnded, fed}
 use Rattle.bsp_cli.specs.Session.{Change, EndsFor, HasNoMore, IsDamage, Session}
 use Rattle.bsp_cli.specs.Writing.{Acts, HaltsAt, status_of_stop}
+use Rattle.bsp_cli.specs.Endings.{how_of, damage_of}
+use Rattle.bsp_cli.specs.declared.serve.Ending.{Ending}
+use Rattle.bsp_cli.specs.declared.serve.Ending.TheVariants.{Border, Damaged, Failed}
 use Rattle.bsp_cli.specs.declared.stop.Stop.{Stop}
 use Rattle.bsp_cli.specs.declared.stop.Stop.TheVariants.{Sink, NoMemory}
 use Rattle.bsp_edge.proofs.StreamLaws.{takes_nothing, gives_nothing}
@@ -56,9 +62,9 @@ taken_frames read bodies rest n frames count =
     record { frames = rw (front_taken parts.front rest read n parts.whole count) parts.frames; none = nil_no_frame }
 
 status_small : (how : InputEnd) → end_status how ≤ 3
-status_small Border = lit≤ tt
-status_small Damaged = lit≤ tt
-status_small Failed = lit≤ tt
+status_small input_end.Border = lit≤ tt
+status_small input_end.Damaged = lit≤ tt
+status_small input_end.Failed = lit≤ tt
 
 -- ---- the three ways
 
@@ -75,7 +81,7 @@ module _ (left0 left given0 given : Option (List ℕ)) (in_old in_new out_old ou
       subst (λ s. IfSome s (λ n. n ≤ 3)) ((known core so.order end.quiet end.alive so.stands).status_is ∙ end.status_is) (status_within so.order)
 
   -- the session took an exit
-  pub session_exits : (core : Core) (stream : Waiting) (status : ℕ) → Progress core stream left0 left given0 given → HasEnded core (Some status) → Session input output status stream.given_end
+  pub session_exits : (core : Core) (stream : Waiting) (status : ℕ) → Progress core stream left0 left given0 given → HasEnded core (Some status) → Session input output status stream.given_end None
   session_exits core stream status so end =
       let knows = known core so.order end.quiet end.alive so.stands in
       let status_is = knows.status_is ∙ end.status_is in
@@ -99,7 +105,7 @@ module _ (left0 left given0 given : Option (List ℕ)) (in_old in_new out_old ou
         no_other = omega arith;
       }
 
-  stopped : (given_end status : ℕ) → 4 ≤ status → status ≤ 5 → Stopped given_end left0 left given0 given → Session input output status given_end
+  stopped : (given_end status : ℕ) → 4 ≤ status → status ≤ 5 → Stopped given_end left0 left given0 given → Session input output status given_end None
   stopped given_end status low high so =
       record {
         order = so.order;
@@ -121,12 +127,12 @@ module _ (left0 left given0 given : Option (List ℕ)) (in_old in_new out_old ou
       }
 
   -- the session had to stop before an end of its input
-  pub session_stops : (given_end : ℕ) (stop : Stop) → Stopped given_end left0 left given0 given → Session input output (status_of_stop stop) given_end
+  pub session_stops : (given_end : ℕ) (stop : Stop) → Stopped given_end left0 left given0 given → Session input output (status_of_stop stop) given_end None
   session_stops given_end Sink so = stopped given_end 4 (lit≤ tt) (lit≤ tt) so
   session_stops given_end NoMemory so = stopped given_end 5 (lit≤ tt) (lit≤ tt) so
 
-  module _ (c d : Core) (stream : Waiting) (how : InputEnd) (middle : Option (List ℕ)) (so : Progress c stream left0 left given0 middle) (drained : HasNoFrame stream.bytes)
-      (cause : EndsFor (Some how) input so.read stream.bytes) where
+  module _ (c d : Core) (stream : Waiting) (how : InputEnd) (damage : Option Damage) (middle : Option (List ℕ)) (so : Progress c stream left0 left given0 middle) (drained : HasNoFrame stream.bytes)
+      (cause : EndsFor (Some how) damage input so.read stream.bytes) where
     ended_frames : (messages : List Said) → Frames (take (fed stream) so.read) (takes_of (onto messages (ends how ∷ so.order))) stream.bytes
     ended_frames messages =
         record {
@@ -134,7 +140,7 @@ module _ (left0 left given0 given : Option (List ℕ)) (in_old in_new out_old ou
           none = drained;
         }
 
-    ends_well : Acts c d (ends how) middle given → IsQuiet d → IsAlive d → Session input output (end_status how) (fed stream)
+    ends_well : Acts c d (ends how) middle given → IsQuiet d → IsAlive d → Session input output (end_status how) (fed stream) damage
     ends_well acts quiet alive =
         let order = onto acts.messages (ends how ∷ so.order) in
         let knows = known d order quiet alive (acts.stands so.order so.stands) in
@@ -160,7 +166,7 @@ module _ (left0 left given0 given : Option (List ℕ)) (in_old in_new out_old ou
           no_other = omega arith;
         }
 
-    ends_stopped : (status : ℕ) → 4 ≤ status → status ≤ 5 → HaltsAt c (ends how) middle given → Session input output status (fed stream)
+    ends_stopped : (status : ℕ) → 4 ≤ status → status ≤ 5 → HaltsAt c (ends how) middle given → Session input output status (fed stream) damage
     ends_stopped status low high halts =
         let ended = end_of-onto halts.messages (ends how ∷ so.order) in
         record {
@@ -183,7 +189,7 @@ module _ (left0 left given0 given : Option (List ℕ)) (in_old in_new out_old ou
         }
 
     -- the session was told how its input ended
-    pub session_ends : (status : ℕ) → Finishes c d how middle given status → Session input output status (fed stream)
+    pub session_ends : (status : ℕ) → Finishes c d how middle given status → Session input output status (fed stream) damage
     session_ends status (ended acts quiet alive) = ends_well acts quiet alive
     session_ends status (halted Sink halts) = ends_stopped 4 (lit≤ tt) (lit≤ tt) halts
     session_ends status (halted NoMemory halts) = ends_stopped 5 (lit≤ tt) (lit≤ tt) halts
@@ -194,15 +200,26 @@ has_more : (stream : Waiting) (told : Change) (read : List ℕ) → length read 
 has_more stream told read count (inl dry) = inl dry
 has_more stream told read count (inr limit) = inr (count ∙ limit)
 
-damage : (stream : Waiting) (told : Change) (read : List ℕ) (bodies : List (List ℕ)) → FramesTo read bodies stream.bytes → length read ≡ fed stream
-    → IsBroken stream.bytes ⊎ ((stream.bytes ≢ []) × IsOut stream told.new) → IsDamage told read stream.bytes
-damage stream told read bodies frames count (inl broken) = inl (broken_front read bodies stream.bytes frames broken)
-damage stream told read bodies frames count (inr out) = inr (out.0, has_more stream told read count out.1)
+-- the damage of the bytes that wait is that of all bytes read
+read_damage : (read : List ℕ) (bodies : List (List ℕ)) (rest : List ℕ) (given_end place : ℕ) (damage : Damage) → FramesTo read bodies rest → length read ≡ given_end + length rest
+    → damage.place ≡ given_end + place → DamageAt rest place damage.kind → DamageAt read damage.place damage.kind
+read_damage read bodies rest given_end place damage frames count counted at =
+    let parts = split read bodies rest frames in
+    let there : DamageAt (parts.front ++ rest) (length parts.front + place) damage.kind = damage_behind parts.front bodies rest place damage.kind parts.frames at in
+    let same : damage.place ≡ length parts.front + place = omega (arith, counted, count, ap length parts.whole, length-append parts.front rest) in
+    rw (parts.whole, same) there
 
-pub ends_for : (how : InputEnd) (stream : Waiting) (told : Change) (read : List ℕ) (bodies : List (List ℕ)) → FramesTo read bodies stream.bytes → length read ≡ fed stream
-    → EndsBy how stream told → EndsFor (Some how) told read stream.bytes
+is_damage : (damage : Damage) (stream : Waiting) (told : Change) (read : List ℕ) (bodies : List (List ℕ)) → FramesTo read bodies stream.bytes → length read ≡ fed stream
+    → EndsBy (Damaged damage) stream told → IsDamage (Some damage) told read stream.bytes
+is_damage damage stream told read bodies frames count (inl has) =
+    inl (read_damage read bodies stream.bytes stream.given_end has.place damage frames count has.counted has.at)
+is_damage damage stream told read bodies frames count (inr inside) =
+    inr (record { kind = inside.kind; place = inside.place ∙ sym count; inside = inside.inside; no_more = has_more stream told read count inside.out })
+
+pub ends_for : (ending : Ending) (stream : Waiting) (told : Change) (read : List ℕ) (bodies : List (List ℕ)) → FramesTo read bodies stream.bytes → length read ≡ fed stream
+    → EndsBy ending stream told → EndsFor (Some (how_of ending)) (damage_of ending) told read stream.bytes
 ends_for Border stream told read bodies frames count cause = (cause.0, has_more stream told read count cause.1)
-ends_for Damaged stream told read bodies frames count cause = damage stream told read bodies frames count cause
+ends_for (Damaged damage) stream told read bodies frames count cause = is_damage damage stream told read bodies frames count cause
 ends_for Failed stream told read bodies frames count cause =
     (λ broken. broken_not_sound stream.bytes (broken_rest read bodies stream.bytes frames broken) cause.0, cause.1)
 
@@ -223,7 +240,7 @@ starts core stream left given stands new =
 
 -- nothing was read or written, for want of memory
 pub session_idle : (left given : Option (List ℕ)) (in_faults out_faults : ℕ)
-    → Session (record { old = left; new = left; faults_old = in_faults; faults_new = in_faults }) (record { old = given; new = given; faults_old = out_faults; faults_new = out_faults }) 5 0
+    → Session (record { old = left; new = left; faults_old = in_faults; faults_new = in_faults }) (record { old = given; new = given; faults_old = out_faults; faults_new = out_faults }) 5 0 None
 session_idle left given in_faults out_faults =
     stopped left left given given in_faults in_faults out_faults out_faults 0 5 (lit≤ tt) (lit≤ tt) (record {
       order = [];
@@ -240,8 +257,8 @@ session_idle left given in_faults out_faults =
     })
 
 -- the cause of an end tells of what is left and of the faults, and not of what was left
-pub same_cause : (how : InputEnd) (stream : Waiting) (old other new : Option (List ℕ)) (f g h : ℕ) → g ≡ f
-    → EndsBy how stream (record { old = old; new = new; faults_old = g; faults_new = h }) → EndsBy how stream (record { old = other; new = new; faults_old = f; faults_new = h })
+pub same_cause : (ending : Ending) (stream : Waiting) (old other new : Option (List ℕ)) (f g h : ℕ) → g ≡ f
+    → EndsBy ending stream (record { old = old; new = new; faults_old = g; faults_new = h }) → EndsBy ending stream (record { old = other; new = new; faults_old = f; faults_new = h })
 same_cause Border stream old other new f g h same cause = cause
-same_cause Damaged stream old other new f g h same cause = cause
+same_cause (Damaged damage) stream old other new f g h same cause = cause
 same_cause Failed stream old other new f g h same cause = rw (← same) cause

@@ -1,5 +1,5 @@
 -- How what is written piece by piece, or message by message, joins.
-use Rattle.std.proofs.Common.{◌≡◌, ◌++◌, ◌<◌, ℕ, List, [], ◌∷◌, length, take, drop, flat_map, Option, Err, refl, sym, ap, ◌∙◌, subst, append_assoc, append-nil}
+use Rattle.std.proofs.Common.{◌≡◌, ◌++◌, ◌<◌, ℕ, List, [], ◌∷◌, length, take, drop, flat_map, Option, Result, Ok, Err, OnOk, OnErr, refl, sym, ap, ◌∙◌, subst, arith, append_assoc, append-nil, length-append}
 use Rattle.std.proofs.lemmas.List.{take-append-drop}
 use Rattle.bsp_edge.specs.Streams.{Gives}
 use Rattle.bsp_edge.specs.Writing.{GivesFront as TookFront}
@@ -26,6 +26,68 @@ breaks a b bytes rest so more = record { front = so.front; rest = rest; more = m
 
 pub ends : (a b : Option (List ℕ)) (bytes rest : List ℕ) → GivesSoFar a b bytes rest → rest ≡ [] → Gives a b bytes
 ends a b bytes rest so none = subst (λ all. Gives a b all) (sym (so.whole ∙ (ap (λ r. so.front ++ r) none ∙ append-nil so.front))) so.given
+
+-- a front of what stands behind what was given
+pub front_behind : (a b c : Option (List ℕ)) (xs ys : List ℕ) → Gives a b xs → GivesFront b c ys → GivesFront a c (xs ++ ys)
+front_behind a b c xs ys given part =
+    record {
+      front = xs ++ part.front;
+      rest = part.rest;
+      more = part.more;
+      whole = ap (λ r. xs ++ r) part.whole ∙ sym (append_assoc xs part.front part.rest);
+      given = gives_append a b c xs part.front given part.given;
+    }
+
+-- a front of what stands before more
+pub front_before : (a b : Option (List ℕ)) (xs ys : List ℕ) → GivesFront a b xs → GivesFront a b (xs ++ ys)
+front_before a b xs ys part =
+    record {
+      front = part.front;
+      rest = part.rest ++ ys;
+      more = omega (arith, part.more, length-append part.rest ys);
+      whole = ap (λ r. r ++ ys) part.whole ∙ append_assoc part.front part.rest ys;
+      given = part.given;
+    }
+
+-- the note of a damage, piece by piece
+module _ (a b c d e f : Option (List ℕ)) (at place colon kind last : List ℕ) where
+  abbrev noted : List ℕ
+  noted = at ++ (place ++ (colon ++ (kind ++ last)))
+
+  pub noted_place : Gives a b at → GivesFront b c place → GivesFront a c noted
+  noted_place first part = front_behind a b c at (place ++ (colon ++ (kind ++ last))) first (front_before b c place (colon ++ (kind ++ last)) part)
+
+  pub noted_colon : Gives a b at → Gives b c place → GivesFront c d colon → GivesFront a d noted
+  noted_colon first second part =
+      front_behind a b d at (place ++ (colon ++ (kind ++ last))) first (front_behind b c d place (colon ++ (kind ++ last)) second (front_before c d colon (kind ++ last) part))
+
+  behind_kind : Gives a b at → Gives b c place → Gives c d colon → GivesFront d f (kind ++ last) → GivesFront a f noted
+  behind_kind first second third part =
+      front_behind a b f at (place ++ (colon ++ (kind ++ last))) first (front_behind b c f place (colon ++ (kind ++ last)) second (front_behind c d f colon (kind ++ last) third part))
+
+  pub noted_kind : Gives a b at → Gives b c place → Gives c d colon → GivesFront d f kind → GivesFront a f noted
+  noted_kind first second third part = behind_kind first second third (front_before d f kind last part)
+
+  pub noted_last : Gives a b at → Gives b c place → Gives c d colon → Gives d e kind → GivesFront e f last → GivesFront a f noted
+  noted_last first second third fourth part = behind_kind first second third (front_behind d e f kind last fourth part)
+
+  pub noted_whole : Gives a b at → Gives b c place → Gives c d colon → Gives d e kind → Gives e f last → Gives a f noted
+  noted_whole first second third fourth fifth =
+      gives_append a b f at (place ++ (colon ++ (kind ++ last))) first
+      (gives_append b c f place (colon ++ (kind ++ last)) second (gives_append c d f colon (kind ++ last) third (gives_append d e f kind last fourth fifth)))
+
+-- a fact that holds anyway, and one that follows from another
+pub on_err : {A E : Type 0} (r : Result A E) (P : Type 0) → P → OnErr r P
+on_err (Ok a) P p = tt
+on_err (Err e) P p = p
+
+pub on_err_then : {A E : Type 0} (r : Result A E) (P Q : Type 0) → (P → Q) → OnErr r P → OnErr r Q
+on_err_then (Ok a) P Q next p = tt
+on_err_then (Err e) P Q next p = next p
+
+pub on_ok_then : {A E : Type 0} (r : Result A E) (P Q : Type 0) → (P → Q) → OnOk r P → OnOk r Q
+on_ok_then (Ok a) P Q next p = next p
+on_ok_then (Err e) P Q next p = tt
 
 -- ---- messages
 

@@ -2,10 +2,12 @@
 use Rattle.std.specs.Prelude.{◌≡◌, ◌≢◌, ◌⊎◌, ◌+◌, ◌++◌, ◌<◌, ℕ, List, [], length, flat_map, Option, None}
 use Rattle.bsp_edge.specs.Faults.{Rose}
 use Rattle.bsp_edge.specs.Streams.{Takes, Gives, IsDry}
-use Rattle.rpc_frame.specs.Frames.{FramesTo, HasNoFrame, IsBroken, IsSound, Waiting}
+use Rattle.rpc_frame.specs.Frames.{FramesTo, HasNoFrame, IsSound, Waiting}
 use Rattle.rpc_frame.specs.declared.TheConstants.{STREAM_LIMIT}
+use Rattle.rpc_frame.specs.declared.damage.Damage.{Damage}
+use Rattle.rpc_frame.specs.declared.damage.DamageKind.TheVariants.{Truncated}
+use Rattle.rpc_frame.specs.Damages.{HasDamage}
 use Rattle.session_law.specs.declared.InputEnd.{InputEnd}
-use Rattle.session_law.specs.declared.InputEnd.TheVariants.{Border, Damaged, Failed}
 use Rattle.session_law.specs.Lawful.{Lawful, text_of}
 use Rattle.session_law.specs.Order.{Event, ends, takes_of, writes_of, end_of}
 use Rattle.session_law.specs.Past.{end_status}
@@ -13,6 +15,8 @@ use Rattle.session_core.specs.Standing.{StandsFor, IsQuiet, IsAlive, status_of}
 use Rattle.session_core.specs.declared.session.Core.{Core}
 use Rattle.bsp_cli.specs.Session.{Change, IsCut}
 use Rattle.bsp_cli.specs.Writing.{Acts, HaltsAt, status_of_stop}
+use Rattle.bsp_cli.specs.declared.serve.Ending.{Ending}
+use Rattle.bsp_cli.specs.declared.serve.Ending.TheVariants.{Border, Damaged, Failed}
 use Rattle.bsp_cli.specs.declared.stop.Stop.{Stop}
 
 -- the core may be given the next event
@@ -69,10 +73,17 @@ pub record Loses (old new : Waiting) (left left_new : Option (List ℕ)) : Type 
 abbrev pub IsOut : Waiting → Option (List ℕ) → Type 0
 IsOut stream left = IsDry left ⊎ (fed stream ≡ STREAM_LIMIT)
 
+-- the bytes that wait have no more, and end inside a frame
+pub record EndsInside (stream : Waiting) (left : Option (List ℕ)) (damage : Damage) : Type 0 where
+  pub kind : damage.kind ≡ Truncated
+  pub place : damage.place ≡ fed stream
+  pub inside : stream.bytes ≢ []
+  pub out : IsOut stream left
+
 -- why the input is found to have ended, by the bytes that wait
-abbrev pub EndsBy : InputEnd → Waiting → Change → Type 0
+abbrev pub EndsBy : Ending → Waiting → Change → Type 0
 EndsBy Border stream input = (stream.bytes ≡ []) × IsOut stream input.new
-EndsBy Damaged stream input = IsBroken stream.bytes ⊎ ((stream.bytes ≢ []) × IsOut stream input.new)
+EndsBy (Damaged damage) stream input = HasDamage stream damage ⊎ EndsInside stream input.new damage
 EndsBy Failed stream input = IsSound stream.bytes × Rose input.faults_old input.faults_new
 
 -- ---- the next turn
@@ -92,10 +103,10 @@ pub record HasEnded (core : Core) (status : Option ℕ) : Type 0 where
   pub status_is : status_of core ≡ status
 
 -- the core may be told how the input ended
-pub record MayEnd (core : Core) (stream : Waiting) (how : InputEnd) (input : Change) : Type 0 where
+pub record MayEnd (core : Core) (stream : Waiting) (ending : Ending) (input : Change) : Type 0 where
   pub ready : IsReady core
   pub drained : HasNoFrame stream.bytes
-  pub cause : EndsBy how stream input
+  pub cause : EndsBy ending stream input
 
 -- the core acted on the end of the input and owes nothing more, or the session had to stop
 pub data Finishes (c d : Core) (how : InputEnd) (old new : Option (List ℕ)) : ℕ → Type 0 where

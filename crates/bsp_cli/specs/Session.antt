@@ -5,6 +5,9 @@ use Rattle.bsp_edge.specs.Faults.{Rose}
 use Rattle.bsp_edge.specs.Streams.{Takes, Gives, IsDry}
 use Rattle.rpc_frame.specs.Frames.{Frames, IsBroken}
 use Rattle.rpc_frame.specs.declared.TheConstants.{STREAM_LIMIT}
+use Rattle.rpc_frame.specs.declared.damage.Damage.{Damage}
+use Rattle.rpc_frame.specs.declared.damage.DamageKind.TheVariants.{Truncated}
+use Rattle.rpc_frame.specs.Damages.{DamageAt}
 use Rattle.rpc_peer.specs.Said.{Said}
 use Rattle.session_law.specs.declared.InputEnd.{InputEnd}
 use Rattle.session_law.specs.declared.InputEnd.TheVariants.{Border, Damaged, Failed}
@@ -31,16 +34,24 @@ pub record IsCut (bytes : List ℕ) : Type 0 where
 abbrev pub HasNoMore : Change → List ℕ → Type 0
 HasNoMore input read = IsDry input.new ⊎ (length read ≡ STREAM_LIMIT)
 
--- the damage is in the bytes, or they have no more and end inside a frame
-abbrev pub IsDamage : Change → List ℕ → List ℕ → Type 0
-IsDamage input read rest = IsBroken read ⊎ ((rest ≢ []) × HasNoMore input read)
+-- the bytes have no more and end inside a frame
+pub record IsTruncated (input : Change) (read rest : List ℕ) (damage : Damage) : Type 0 where
+  pub kind : damage.kind ≡ Truncated
+  pub place : damage.place ≡ length read
+  pub inside : rest ≢ []
+  pub no_more : HasNoMore input read
+
+-- the damage is in the bytes, or at their end
+abbrev pub IsDamage : Option Damage → Change → List ℕ → List ℕ → Type 0
+IsDamage None input read rest = ⊥
+IsDamage (Some damage) input read rest = DamageAt read damage.place damage.kind ⊎ IsTruncated input read rest damage
 
 -- why the input is found to have ended so
-abbrev pub EndsFor : Option InputEnd → Change → List ℕ → List ℕ → Type 0
-EndsFor None input read rest = Unit {0}
-EndsFor (Some Border) input read rest = (rest ≡ []) × HasNoMore input read
-EndsFor (Some Damaged) input read rest = IsDamage input read rest
-EndsFor (Some Failed) input read rest = (IsBroken read → ⊥) × Rose input.faults_old input.faults_new
+abbrev pub EndsFor : Option InputEnd → Option Damage → Change → List ℕ → List ℕ → Type 0
+EndsFor None damage input read rest = Unit {0}
+EndsFor (Some Border) damage input read rest = (rest ≡ []) × HasNoMore input read
+EndsFor (Some Damaged) damage input read rest = IsDamage damage input read rest
+EndsFor (Some Failed) damage input read rest = (IsBroken read → ⊥) × Rose input.faults_old input.faults_new
 
 -- how many of the bytes read count as taken: all of them where the input was found to have ended,
 -- and those through the last frame acted on where it wasn't
@@ -48,7 +59,7 @@ abbrev pub Counts : Option InputEnd → ℕ → List ℕ → List ℕ → Type 0
 Counts None taken read rest = rest ≡ []
 Counts (Some how) taken read rest = taken ≡ length read
 
-pub record Session (input output : Change) (status taken : ℕ) : Type 0 where
+pub record Session (input output : Change) (status taken : ℕ) (damage : Option Damage) : Type 0 where
   -- the one order
   pub order : List Event
   pub lawful : Lawful order
@@ -59,7 +70,7 @@ pub record Session (input output : Change) (status taken : ℕ) : Type 0 where
   pub rest : List ℕ
   pub frames : Frames (take taken read) (takes_of order) rest
   pub counts : Counts (end_of order) taken read rest
-  pub ends_for : EndsFor (end_of order) input read rest
+  pub ends_for : EndsFor (end_of order) damage input read rest
   -- its writes are the bytes written, and at most a proper front of one message more
   pub tail : List ℕ
   pub put : Gives output.old output.new (flat_map text_of (writes_of order) ++ tail)
@@ -69,10 +80,3 @@ pub record Session (input output : Change) (status taken : ℕ) : Type 0 where
   pub settled : status < 4 → IsSettled order
   pub agrees : status < 4 → status_after order ≡ Some status
   pub no_other : status ≤ 5
-
--- nothing is read and nothing is written
-pub record Idle (input output : Change) (status taken : ℕ) : Type 0 where
-  pub unread : input.new ≡ input.old
-  pub unwritten : output.new ≡ output.old
-  pub no_bytes : taken ≡ 0
-  pub status_is : (status ≡ 6) ⊎ (status ≡ 4)

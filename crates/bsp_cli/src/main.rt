@@ -1,6 +1,7 @@
 //! The program `oberon-bsp`: its top call over any input and output, and the real ones.
 #![tactic(auto)]
 
+mod notes;
 mod run;
 mod serve;
 mod stop;

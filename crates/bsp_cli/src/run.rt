@@ -1,14 +1,16 @@
 ghost use Rattle.std.specs.Prelude.{◌≡◌, ◌≤◌, ◌⊎◌, ℕ, List};
 ghost use Rattle.bsp_edge.specs.Faults.{Rose};
-ghost use Rattle.bsp_cli.specs.Notes.{NotedAs, Notes, note_for};
-ghost use Rattle.bsp_cli.specs.Session.{Idle, Session};
+ghost use Rattle.bsp_cli.specs.Notes.{NotedAs};
+ghost use Rattle.bsp_cli.specs.Served.{Idle, Served};
 ghost use Rattle.bsp_cli.specs.Words.{AskNothing, ServesFolder};
 
+use crate::notes::write_note;
 use crate::serve::{Ended, serve};
 use crate::words::{Command, Usage, read_words};
-use crate::writing::{SinkFailed, write_all};
+use crate::writing::SinkFailed;
 use bsp_edge::{Sink, Source};
 use ob_text::Text;
+use rpc_frame::Damage;
 use std::alloc::Global;
 
 /// The status of words that ask for nothing that the program does.
@@ -28,8 +30,9 @@ pub fn run_words<S: Source, K: Sink>(
     output: &mut K,
     notes: &mut K,
 ) -> Ended
-    // The bytes taken and the bytes written are the takes and the writes of one lawful order.
-    ensures session { (folder : List ℕ) → ServesFolder words.now folder → Session
+    // The bytes taken and the bytes written are the takes and the writes of one lawful order, and
+    // the notes tell the damage that ended it.
+    ensures session { (folder : List ℕ) → ServesFolder words.now folder → Served
         (record {
           old = S.left input.old;
           new = S.left input.new;
@@ -41,6 +44,12 @@ pub fn run_words<S: Source, K: Sink>(
           new = K.given output.new;
           faults_old = K.faults output.old;
           faults_new = K.faults output.new;
+        })
+        (record {
+          old = K.given notes.old;
+          new = K.given notes.new;
+          faults_old = K.faults notes.old;
+          faults_new = K.faults notes.new;
         })
         result.status result.taken }
 
@@ -58,11 +67,16 @@ pub fn run_words<S: Source, K: Sink>(
           faults_old = K.faults output.old;
           faults_new = K.faults output.new;
         })
+        (record {
+          old = K.given notes.old;
+          new = K.given notes.new;
+          faults_old = K.faults notes.old;
+          faults_new = K.faults notes.new;
+        })
         result.status result.taken }
     ensures usage { result.status ≡ 6 → AskNothing words.now }
 
-    // What is said beside the output, and why a run fails that isn't the client's fault.
-    ensures notes { Notes (K.given notes.old) (K.given notes.new) result.status }
+    // Why a run fails that isn't the client's fault.
     ensures input { result.status ≡ 3 → Rose (S.faults input.old) (S.faults input.new) }
     ensures sink { result.status ≡ 4 → Rose (K.faults output.old) (K.faults output.new)
         ⊎ Rose (K.faults notes.old) (K.faults notes.new) }
@@ -70,8 +84,8 @@ pub fn run_words<S: Source, K: Sink>(
 {
     match read_words(words) {
         Ok(Command::Serve { folder: _ }) => {
-            let ended = serve(alloc, input, output);
-            note(notes, ended)
+            let served = serve(alloc, input, output);
+            note(notes, served.ended, served.damage)
         }
         Err(Usage) => note(
             notes,
@@ -79,35 +93,22 @@ pub fn run_words<S: Source, K: Sink>(
                 status: USAGE,
                 taken: 0,
             },
+            None,
         ),
     }
 }
 
 /// Says what belongs to the status, and answers how the run ended then.
-fn note<K: Sink>(notes: &mut K, ended: Ended) -> Ended
+fn note<K: Sink>(notes: &mut K, ended: Ended, damage: Option<Damage>) -> Ended
     ensures noted { NotedAs (K.given notes.old) (K.given notes.new) (K.faults notes.old)
-        (K.faults notes.new) ended.status result.status }
+        (K.faults notes.new) ended.status damage result.status }
     ensures taken { result.taken ≡ ended.taken }
 {
-    match write_all(notes, note_text(ended.status)) {
+    match write_note(notes, ended.status, damage) {
         Ok(()) => ended,
         Err(SinkFailed) => Ended {
             status: SINK,
             taken: ended.taken,
         },
-    }
-}
-
-/// The note that belongs to a status.
-#[tactic(auto, unfolding(crate::specs::Notes::damaged_note, crate::specs::Notes::failed_note, crate::specs::Notes::usage_note))]
-fn note_text(status: u8) -> &'static [u8]
-    ensures { result.now ≡ note_for status }
-{
-    match status {
-        2 => b"damaged input\n",
-        3 => b"input failed\n",
-        6 =>
-            b"usage: oberon-bsp serve DIR [--workers N] [--record] | client SCRIPT | check | soak N\n",
-        _ => b"",
     }
 }

@@ -1,19 +1,22 @@
 ghost use Rattle.std.specs.Prelude.{◌≡◌, ◌+◌, ◌<◌, ◌≤◌, ℕ, Bool, true, false, List, [], length, Option, Some, None, Ok, IfOk, OnOk, OnErr, IsErrOf};
 ghost use Rattle.bsp_edge.specs.Faults.{Rose};
-ghost use Rattle.rpc_frame.specs.Frames.{HasNoFrame, IsBroken, IsSound};
+ghost use Rattle.rpc_frame.specs.declared.damage.Damage.{Damage};
+ghost use Rattle.rpc_frame.specs.Damages.{HasDamage};
+ghost use Rattle.rpc_frame.specs.Frames.{HasNoFrame, IsSound};
 ghost use Rattle.session_law.specs.declared.InputEnd.{InputEnd};
 ghost use Rattle.session_law.specs.Order.{Event, take, ends};
 ghost use Rattle.session_law.specs.Past.{end_status};
 ghost use Rattle.session_core.specs.Standing.{StandsFor, IsAlive, IsQuiet, status_of};
 ghost use Rattle.bsp_cli.specs.Progress.{EndsBy, Feeds, Finishes, HasEnded, IsOut, IsReady, Loses, MayEnd, MayGoOn, Progress, Stopped, fed};
 ghost use Rattle.bsp_cli.specs.Session.{Change, Session};
+ghost use Rattle.bsp_cli.specs.declared.serve.Ending.{Ending};
 ghost use Rattle.bsp_cli.specs.Writing.{Acts, HaltsAt};
 
 use crate::stop::Stop;
 use crate::writing::flush;
 use bsp_edge::{Got, Sink, Source};
 use ob_text::NoMemory;
-use rpc_frame::{Decoder, FeedFault, STREAM_LIMIT};
+use rpc_frame::{Damage, DamageKind, Decoder, FeedFault, STREAM_LIMIT};
 use session_core::Core;
 use session_law::InputEnd;
 use std::alloc::Global;
@@ -28,6 +31,48 @@ pub struct Ended {
     pub taken: u64,
 }
 
+/// How an input ends, and where it is damaged.
+#[derive(Clone, Copy, Debug, PartialEq, Eq)]
+pub enum Ending {
+    /// Behind a whole frame, or before the first.
+    Border,
+    Damaged(Damage),
+    /// Reading failed.
+    Failed,
+}
+
+impl Ending {
+    ghost use Rattle.std.specs.Prelude.{◌≡◌};
+    ghost use Rattle.bsp_cli.specs.Endings.{damage_of, how_of};
+
+    /// What the session is told of it.
+    fn how(self) -> InputEnd
+        ensures { result ≡ how_of self }
+    {
+        match self {
+            Ending::Border => InputEnd::Border,
+            Ending::Damaged(_) => InputEnd::Damaged,
+            Ending::Failed => InputEnd::Failed,
+        }
+    }
+
+    fn damage(self) -> Option<Damage>
+        ensures { result ≡ damage_of self }
+    {
+        match self {
+            Ending::Damaged(damage) => Some(damage),
+            Ending::Border | Ending::Failed => None,
+        }
+    }
+}
+
+/// How a session ended, and the damage of its input where that ended it.
+#[derive(Clone, Copy, Debug, PartialEq, Eq)]
+pub struct Served {
+    pub ended: Ended,
+    pub damage: Option<Damage>,
+}
+
 /// What one turn of the loop leads to.
 enum Turn {
     /// The next turn.
@@ -35,16 +80,16 @@ enum Turn {
     /// The session took an exit, and has this status.
     Exits(u8),
     /// The input is found to have ended.
-    Ends(InputEnd),
+    Ends(Ending),
 }
 
 /// What was read of the input.
 #[derive(Clone, Copy)]
 enum Fetched {
-    /// A piece, which the decoder has now, and whether a list of frames can begin so.
-    Piece(bool),
+    /// A piece, which the decoder has now, and the damage of the stream with it.
+    Piece(Option<Damage>),
     /// The input is found to have ended.
-    End(InputEnd),
+    End(Ending),
 }
 
 /// Acts on one body, and writes the answers. Answers the status that the session ended with, where
@@ -125,7 +170,8 @@ fn act_on_frames<K: Sink>(
     ensures stood { OnOk result ((order : List Event) × StandsFor core.new order) }
     ensures drained { result ≡ Ok None → HasNoFrame decoder.new.bytes }
     ensures sound { OnOk result (IsSound decoder.old.bytes → IsSound decoder.new.bytes) }
-    ensures broken { OnOk result (IsBroken decoder.old.bytes → IsBroken decoder.new.bytes) }
+    ensures damage { OnOk result ((damage : Damage) → HasDamage decoder.old damage
+        → HasDamage decoder.new damage) }
     ensures fed { fed decoder.new ≡ fed decoder.old }
     ensures sink { IsErrOf result Stop.Sink → Rose (K.faults output.old) (K.faults output.new) }
     ensures same { OnOk result (K.faults output.new ≡ K.faults output.old) }
@@ -157,15 +203,16 @@ fn fetch<S: Source>(
     requires limit { fed decoder.old + length into.old ≤ STREAM_LIMIT }
     requires drained { HasNoFrame decoder.old.bytes }
     requires sound { IsSound decoder.old.bytes }
-    ensures piece { IfOk result (λ fetched. (sound : Bool) → fetched ≡ Fetched.Piece sound
+    ensures piece { IfOk result (λ fetched. (damage : Option Damage) → fetched ≡ Fetched.Piece damage
         → Feeds decoder.old decoder.new (S.left input.old) (S.left input.new)) }
-    ensures some { IfOk result (λ fetched. (sound : Bool) → fetched ≡ Fetched.Piece sound
+    ensures some { IfOk result (λ fetched. (damage : Option Damage) → fetched ≡ Fetched.Piece damage
         → fed decoder.old < fed decoder.new) }
-    ensures sound { result ≡ Ok (Fetched.Piece true) → IsSound decoder.new.bytes }
-    ensures broken { result ≡ Ok (Fetched.Piece false) → IsBroken decoder.new.bytes }
-    ensures same { IfOk result (λ fetched. (sound : Bool) → fetched ≡ Fetched.Piece sound
+    ensures sound { result ≡ Ok (Fetched.Piece None) → IsSound decoder.new.bytes }
+    ensures damaged { IfOk result (λ fetched. (damage : Damage) → fetched ≡ Fetched.Piece (Some damage)
+        → HasDamage decoder.new damage) }
+    ensures same { IfOk result (λ fetched. (damage : Option Damage) → fetched ≡ Fetched.Piece damage
         → S.faults input.new ≡ S.faults input.old) }
-    ensures end { IfOk result (λ fetched. (how : InputEnd) → fetched ≡ Fetched.End how
+    ensures end { IfOk result (λ fetched. (how : Ending) → fetched ≡ Fetched.End how
         → (decoder.new ≡ decoder.old) × (S.left input.new ≡ S.left input.old)
         × EndsBy how decoder.old (record {
           old = S.left input.old;
@@ -180,31 +227,32 @@ fn fetch<S: Source>(
     match input.read(into) {
         Got::Bytes(count) => {
             let fetched = match decoder.feed(into.split_at(count).0) {
-                Ok(()) => Fetched::Piece(true),
-                Err(FeedFault::Damaged) => Fetched::Piece(false),
+                Ok(()) => Fetched::Piece(None),
+                Err(FeedFault::Damaged(damage)) => Fetched::Piece(Some(damage)),
                 Err(FeedFault::NoMemory) => return Err(NoMemory),
             };
             *total += count as u64;
             Ok(fetched)
         }
-        Got::End => Ok(Fetched::End(end_of(decoder))),
-        Got::Failed => Ok(Fetched::End(InputEnd::Failed)),
+        Got::End => Ok(Fetched::End(end_of(decoder, *total))),
+        Got::Failed => Ok(Fetched::End(Ending::Failed)),
         Got::Quiet => unreachable!(),
     }
 }
 
-/// How an input ends that has no more.
-fn end_of(decoder: &Decoder) -> InputEnd
-    requires { HasNoFrame decoder.now.bytes }
-    ensures border { result ≡ InputEnd.Border → decoder.now.bytes ≡ [] }
-    ensures damaged { result ≡ InputEnd.Damaged → decoder.now.bytes ≡ [] → ⊥ }
-    ensures other { result ≡ InputEnd.Failed → ⊥ }
-    ensures cause { (input : Change) → IsOut decoder.now input.new → EndsBy result decoder.now input }
+/// How an input of `total` bytes ends that has no more.
+fn end_of(decoder: &Decoder, total: u64) -> Ending
+    requires drained { HasNoFrame decoder.now.bytes }
+    requires total { total ≡ fed decoder.now }
+    ensures { (input : Change) → IsOut decoder.now input.new → EndsBy result decoder.now input }
 {
     if decoder.at_border() {
-        InputEnd::Border
+        Ending::Border
     } else {
-        InputEnd::Damaged
+        Ending::Damaged(Damage {
+            place: total,
+            kind: DamageKind::Truncated,
+        })
     }
 }
 
@@ -236,7 +284,7 @@ fn take_turn<S: Source, K: Sink>(
         (S.faults input.old) (S.faults input.new) }
     ensures exits { IfOk result (λ turn. (status : ℕ) → turn ≡ Turn.Exits status
         → HasEnded core.new (Some status)) }
-    ensures ends { IfOk result (λ turn. (how : InputEnd) → turn ≡ Turn.Ends how
+    ensures ends { IfOk result (λ turn. (how : Ending) → turn ≡ Turn.Ends how
         → MayEnd core.new decoder.new how (record {
           old = S.left input.old;
           new = S.left input.new;
@@ -250,12 +298,11 @@ fn take_turn<S: Source, K: Sink>(
     ensures same { OnOk result (K.faults output.new ≡ K.faults output.old) }
 {
     match fetch(input, decoder, total, into) {
-        Ok(Fetched::Piece(sound)) => match act_on_frames(alloc, core, decoder, output, frame) {
+        Ok(Fetched::Piece(damage)) => match act_on_frames(alloc, core, decoder, output, frame) {
             Ok(Some(status)) => Ok(Turn::Exits(status)),
-            Ok(None) => if sound {
-                Ok(Turn::GoesOn)
-            } else {
-                Ok(Turn::Ends(InputEnd::Damaged))
+            Ok(None) => match damage {
+                None => Ok(Turn::GoesOn),
+                Some(damage) => Ok(Turn::Ends(Ending::Damaged(damage))),
             },
             Err(stop) => Err(stop),
         },
@@ -295,7 +342,7 @@ fn end_status(how: InputEnd) -> u8
 }
 
 /// Serves a client until it exits, its input ends, or the session has to stop.
-pub fn serve<S: Source, K: Sink>(alloc: Global, input: &mut S, output: &mut K) -> Ended
+pub fn serve<S: Source, K: Sink>(alloc: Global, input: &mut S, output: &mut K) -> Served
     ensures session { Session
         (record {
           old = S.left input.old;
@@ -309,15 +356,21 @@ pub fn serve<S: Source, K: Sink>(alloc: Global, input: &mut S, output: &mut K) -
           faults_old = K.faults output.old;
           faults_new = K.faults output.new;
         })
-        result.status result.taken }
-    ensures sink { result.status ≡ 4 → Rose (K.faults output.old) (K.faults output.new) }
+        result.ended.status result.ended.taken result.damage }
+    ensures sink { result.ended.status ≡ 4 → Rose (K.faults output.old) (K.faults output.new) }
 {
     match vec![in alloc; 0u8; PIECE] {
         Ok(mut buffer) => serve_with(alloc, buffer.as_mut_slice(), input, output),
-        Err(_) => Ended {
-            status: 5,
-            taken: 0,
-        },
+        Err(_) => outcome(5, 0, None),
+    }
+}
+
+fn outcome(status: u8, taken: u64, damage: Option<Damage>) -> Served
+    ensures { result ≡ record { ended = record { status = status; taken = taken }; damage = damage } }
+{
+    Served {
+        ended: Ended { status, taken },
+        damage,
     }
 }
 
@@ -326,7 +379,7 @@ fn serve_with<S: Source, K: Sink>(
     buffer: &mut [u8],
     input: &mut S,
     output: &mut K,
-) -> Ended
+) -> Served
     requires { 0 < length buffer.old }
     ensures session { Session
         (record {
@@ -341,8 +394,8 @@ fn serve_with<S: Source, K: Sink>(
           faults_old = K.faults output.old;
           faults_new = K.faults output.new;
         })
-        result.status result.taken }
-    ensures sink { result.status ≡ 4 → Rose (K.faults output.old) (K.faults output.new) }
+        result.ended.status result.ended.taken result.damage }
+    ensures sink { result.ended.status ≡ 4 → Rose (K.faults output.old) (K.faults output.new) }
 {
     let mut core = Core::new(alloc);
     let mut decoder = Decoder::new(alloc);
@@ -351,12 +404,10 @@ fn serve_with<S: Source, K: Sink>(
     'turns: loop {
         let limit = STREAM_LIMIT - total;
         if limit == 0 {
-            let how = end_of(&decoder);
+            let ending = end_of(&decoder, total);
+            let how = ending.how();
             let status = finish(alloc, &mut core, how, output, &mut frame);
-            return Ended {
-                status,
-                taken: total,
-            };
+            return outcome(status, total, ending.damage());
         }
         let room = (buffer.len() as u64).min(limit) as usize;
         let into = &mut buffer[..room];
@@ -373,19 +424,17 @@ fn serve_with<S: Source, K: Sink>(
             Ok(Turn::GoesOn) => {}
             Ok(Turn::Exits(status)) => {
                 let taken = decoder.given_end();
-                return Ended { status, taken };
+                return outcome(status, taken, None);
             }
-            Ok(Turn::Ends(how)) => {
+            Ok(Turn::Ends(ending)) => {
+                let how = ending.how();
                 let status = finish(alloc, &mut core, how, output, &mut frame);
-                return Ended {
-                    status,
-                    taken: total,
-                };
+                return outcome(status, total, ending.damage());
             }
             Err(stop) => {
                 let taken = decoder.given_end();
                 let status = stop.status();
-                return Ended { status, taken };
+                return outcome(status, taken, None);
             }
         }
     }

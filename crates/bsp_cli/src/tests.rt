@@ -115,9 +115,8 @@ fn cut_after_each_byte(rt: HostRuntime) -> Result<(), Fail> {
 #[test]
 fn ends_of_input(rt: HostRuntime) -> Result<(), Fail> {
     let alloc = rt.alloc();
-    let damaged = b"damaged input\n".as_slice();
     let unread = b"Content-Length: 2\r\n\r\n[]".as_slice();
-    let cases: [(&[&[u8]], u8, u64, &[&[u8]], &[u8]); 10] = [
+    let cases: [(&[&[u8]], u8, u64, &[&[u8]], &[u8]); 9] = [
         (&[], 1, 0, &[], b""),
         (&[INITIALIZE], 1, 203, &[INITIALIZED], b""),
         (&[EXIT], 1, 61, &[], b""),
@@ -130,20 +129,19 @@ fn ends_of_input(rt: HostRuntime) -> Result<(), Fail> {
             b"",
         ),
         (
-            &[b"Content-Length: 5\r\n\r\n{\"a"],
-            2,
-            24,
-            &[PARSE_ERROR],
-            damaged,
-        ),
-        (
             &[INITIALIZE, b"Content-Length: 5\n", SHUTDOWN],
             2,
             293,
             &[INITIALIZED, PARSE_ERROR],
-            damaged,
+            b"damaged input at byte 220: bad line\n",
         ),
-        (&[b"content-length: 2"], 2, 17, &[PARSE_ERROR], damaged),
+        (
+            &[b"Content-Type: a\r\ncontent-length:\t2 \r\n\r\n[]", EXIT],
+            1,
+            102,
+            &[INVALID],
+            b"",
+        ),
         (&[unread, INITIALIZE], 1, 226, &[INVALID, INITIALIZED], b""),
         (
             &[SHUTDOWN, unread, EXIT],
@@ -163,6 +161,41 @@ fn ends_of_input(rt: HostRuntime) -> Result<(), Fail> {
             joined(alloc, answers)?.as_slice(),
             notes,
         );
+    }
+    Ok(())
+}
+
+const FILL: &[u8] = b"................................................................";
+
+#[test]
+fn damages(rt: HostRuntime) -> Result<(), Fail> {
+    let alloc = rt.alloc();
+    let cases: [(&[&[u8]], &[u8]); 9] = [
+        (&[b"Content-Length: 5\r\n\r\n{\"a"], b"24: truncated"),
+        (&[b"content-length: 2"], b"17: truncated"),
+        (&[b"A b: 1\r\n"], b"1: bad line"),
+        (
+            &[b"Content-Length: 2\r\nContent-Length: 2\r\n\r\n[]"],
+            b"33: two lengths",
+        ),
+        (&[b"Content-Length: 2x\r\n\r\n[]"], b"17: bad length"),
+        (&[b"Content-Length: 123456789"], b"24: bad length"),
+        (&[b"Content-Length: 16777217\r\n"], b"23: too long"),
+        (&[b"A: b\r\n\r\n"], b"6: no length"),
+        (
+            &[
+                b"A:", FILL, FILL, FILL, FILL, FILL, FILL, FILL, FILL, FILL, FILL, FILL, FILL,
+                FILL, FILL, FILL, FILL,
+            ],
+            b"1024: header too long",
+        ),
+    ];
+    for (parts, damage) in cases {
+        let bytes = joined(alloc, parts)?;
+        let read = bytes.len() as u64;
+        let note = joined(alloc, &[b"damaged input at byte ", damage, b"\n"])?;
+        let left = run_on(alloc, bytes, Vec::new(alloc))?;
+        expect_left(&rt, &left, 2, read, PARSE_ERROR, note.as_slice());
     }
     Ok(())
 }

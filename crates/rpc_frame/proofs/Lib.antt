@@ -1,6 +1,15 @@
-pub mod PlainFrames
+pub mod Bytes
+pub mod RunLaws
+pub mod Stands
+pub mod StandLaws
+pub mod ReadLaws
+pub mod EndLaws
+pub mod HeaderLaws
 pub mod FrameLaws
+pub mod BreakLaws
+pub mod DamageLaws
 pub mod PartLaws
 pub mod ScanLaws
+pub mod BrokenLaws
 pub mod KeptLaws
 pub mod WriteLaws

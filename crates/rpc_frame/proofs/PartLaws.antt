@@ -1,234 +1,230 @@
--- What one more byte makes of a part of a frame.
-use Rattle.std.proofs.Common.{◌≡◌, ◌≢◌, ℕ, zero, suc, ◌+◌, ◌-◌, ◌*◌, ◌<◌, ◌≤◌, ◌⊎◌, inl, inr, List, [], ◌∷◌, ◌++◌, length, get_or, take, drop, sym, ◌∙◌, ap, subst, refl, arith, append_assoc, length-append}
-use Rattle.std.proofs.Math.Numerals.{sub-one}
-use Rattle.std.specs.Char.{IsAsciiDigit}
-use Rattle.std.proofs.lemmas.List.{append_cancel_left, append-nil, take_more, take_all, length-take-le, get_or_append_left, get_or_at, length_push}
-use Rattle.rpc_frame.specs.declared.TheConstants.{CONTENT_LIMIT}
-use Rattle.rpc_frame.specs.declared.reading.Reading.TheVariants.{Name, Digits, Ends, Content}
-use Rattle.rpc_frame.specs.Frames.{NeverBegins, field_name, line_ends, AreDigits, number_behind, IsSize, BeginsWith}
-use Rattle.rpc_frame.specs.Partial.{IsInEnds, IsInContent, IsMarked, Reads}
-use Rattle.rpc_frame.proofs.PlainFrames.{length-field_name, length-line_ends, line_ends-first, DigitsGoOn, digits-next, stands}
+-- What a part of a frame is, and what more bytes make of it.
+use Rattle.std.proofs.Common.{◌≡◌, ℕ, ◌+◌, ◌-◌, ◌<◌, ◌≤◌, inl, inr, List, [], ◌∷◌, ◌++◌, length, sym, ◌∙◌, ap, subst, refl, arith, append_assoc, length-append}
+use Rattle.std.proofs.lemmas.List.{append-nil, length_push}
+use Rattle.rpc_frame.specs.declared.TheConstants.{HEADER_LIMIT}
+use Rattle.rpc_frame.specs.declared.damage.Damage.{Damage}
+use Rattle.rpc_frame.specs.declared.damage.DamageKind.{DamageKind}
+use Rattle.rpc_frame.specs.declared.damage.DamageKind.TheVariants.{Truncated}
+use Rattle.rpc_frame.specs.declared.head.Head.{Head}
+use Rattle.rpc_frame.specs.declared.head.Next.TheVariants.{On, Closed, Bad}
+use Rattle.rpc_frame.specs.Frames.{IsHeader, NeverBegins}
+use Rattle.rpc_frame.specs.Heads.{spot_next, start, reading}
+use Rattle.rpc_frame.specs.Damages.{BreaksHeader, DamageAt}
+use Rattle.rpc_frame.specs.Partial.{IsInHeader, IsInContent, Breaks, IsBad, IsMarked}
+use Rattle.rpc_frame.proofs.RunLaws.{run_on}
+use Rattle.rpc_frame.proofs.Stands.{Leads, BreaksAt}
+use Rattle.rpc_frame.proofs.StandLaws.{reading_stands, stands_leads, closed_header}
+use Rattle.rpc_frame.proofs.HeaderLaws.{GoesOver, fronts, stands, on_no_header, bad_no_header}
+use Rattle.rpc_frame.proofs.FrameLaws.{zeros, length-zeros, IsCut, on_cut, cut_no_frame, begins_sound, never_broken, never_more}
 
--- a front and a byte, and what follows them
-push_more : (p x : List ℕ) (b : ℕ) → (p ++ b ∷ []) ++ x ≡ p ++ (b ∷ x)
-push_more p x b = append_assoc p (b ∷ []) x
-
--- Behind a part of a fixed text stands its next byte.
-text_next : (text : List ℕ) (at b : ℕ) (x y : List ℕ) → at < length text → text ++ y ≡ take at text ++ (b ∷ x) → b ≡ get_or text at 0
-text_next text at b x y inside e =
-    sym (get_or_at (take at text) b x 0 at (length-take-le at text (omega arith)))
-    ∙ ap (λ t. get_or t at 0) (sym e) ∙ get_or_append_left text y 0 at inside
-
-AreDigits-push : (ds : List ℕ) (b : ℕ) → AreDigits ds → IsAsciiDigit b → AreDigits (ds ++ b ∷ [])
-AreDigits-push [] b h d = (d, tt)
-AreDigits-push (c ∷ ds) b h d = (h.0, AreDigits-push ds b h.1 d)
-
-number_behind-append : (n : ℕ) (ds es : List ℕ) → number_behind n (ds ++ es) ≡ number_behind (number_behind n ds) es
-number_behind-append n [] es = refl
-number_behind-append n (c ∷ ds) es = number_behind-append (10 * n + (c - 48)) ds es
-
-number_grows : (n : ℕ) (ds : List ℕ) → n ≤ number_behind n ds
-number_grows n [] = omega arith
-number_grows n (c ∷ ds) = omega (arith, number_grows (10 * n + (c - 48)) ds)
-
--- a byte that no frame has behind these bytes
-no_next : (p : List ℕ) (b : ℕ) → ((x body after : List ℕ) → BeginsWith (p ++ (b ∷ x)) body after → ⊥) → NeverBegins (p ++ b ∷ [])
-no_next p b none = record {
-  some = omega (arith, length_push p b);
-  never = λ x body after w. none x body after (subst (λ t. BeginsWith t body after) (push_more p x b) w);
+-- One byte more of a header part.
+pub header_goes_on : (came : ℕ) (head next : Head) (p : List ℕ) (b : ℕ) → IsInHeader came head p → came < HEADER_LIMIT → spot_next head.spot head.size b ≡ On next → IsInHeader (came + 1) next (p ++ b ∷ [])
+header_goes_on came head next p b r inside e = record {
+  counted = omega (arith, length_push p b, r.counted);
+  limit = omega arith;
+  leads = run_on start (On head) p (b ∷ []) r.leads ∙ e;
 }
 
--- The name of the field.
-pub name_goes_on : (p : List ℕ) (at b : ℕ) → Reads (Name at) p → b ≡ get_or field_name at 0 → at + 1 < 16 → Reads (Name (at + 1)) (p ++ b ∷ [])
-name_goes_on p at b r same inside =
-    let e : take (at + 1) field_name ≡ take at field_name ++ get_or field_name at 0 ∷ [] = take_more field_name at 0 (omega (arith, length-field_name)) in
-    let h = r.1 in
-    (inside, cc)
+header_ends : (came : ℕ) (head : Head) (size : ℕ) (p : List ℕ) (b : ℕ) → IsInHeader came head p → spot_next head.spot head.size b ≡ Closed size → reading (p ++ b ∷ []) ≡ Closed size
+header_ends came head size p b r e = run_on start (On head) p (b ∷ []) r.leads ∙ e
 
-pub name_ends : (p : List ℕ) (at b : ℕ) → Reads (Name at) p → b ≡ get_or field_name at 0 → 16 ≤ at + 1 → Reads (Digits 0 0) (p ++ b ∷ [])
-name_ends p at b r same last =
-    let e : take (at + 1) field_name ≡ take at field_name ++ get_or field_name at 0 ∷ [] = take_more field_name at 0 (omega (arith, length-field_name, r.0)) in
-    let all : take (at + 1) field_name ≡ field_name = take_all (at + 1) field_name (omega (arith, length-field_name)) in
-    let none : field_name ++ [] ≡ field_name = append-nil field_name in
-    let h = r.1 in
-    record { digits = []; each = tt; counted = refl; eight = omega arith; written = refl; limit = omega arith; whole = cc }
-
-pub name_breaks : (p : List ℕ) (at b : ℕ) → Reads (Name at) p → b ≢ get_or field_name at 0 → NeverBegins (p ++ b ∷ [])
-name_breaks p at b r other = no_next p b (λ x body after w.
-    other (text_next field_name at b x _ (omega (arith, length-field_name, r.0)) (sym (stands _ body after w) ∙ ap (λ t. t ++ (b ∷ x)) r.1)))
-
--- The digits of the frame that goes on behind these digits with b.
-digits_behind : (ds : List ℕ) (b : ℕ) (x body after : List ℕ) → AreDigits ds → (w : BeginsWith ((field_name ++ ds) ++ (b ∷ x)) body after) → ((b ≡ 13) × (w.is.digits ≡ ds)) ⊎ DigitsGoOn ds w.is.digits b
-digits_behind ds b x body after each w =
-    let e = append_cancel_left field_name _ _ (sym (stands _ body after w) ∙ append_assoc field_name ds (b ∷ x)) in
-    let plain = sym (ap (λ t. w.is.digits ++ t) (line_ends-first (body ++ after))) ∙ e in
-    digits-next ds w.is.digits b x _ each w.is.size.each plain
-
-pub digit_goes_on : (p : List ℕ) (count number b : ℕ) → Reads (Digits count number) p → IsAsciiDigit b → count < 8 → 10 * number + (b - 48) ≤ CONTENT_LIMIT → Reads (Digits (count + 1) (10 * number + (b - 48))) (p ++ b ∷ [])
-digit_goes_on p count number b r digit few fits = record {
-  digits = r.digits ++ b ∷ [];
-  each = AreDigits-push r.digits b r.each digit;
-  counted = omega (arith, length_push r.digits b, r.counted);
-  eight = omega arith;
-  written = number_behind-append 0 r.digits (b ∷ []) ∙ ap (λ n. 10 * n + (b - 48)) r.written;
-  limit = fits;
-  whole = ap (λ t. t ++ b ∷ []) r.whole ∙ append_assoc field_name r.digits (b ∷ []);
-}
-
-pub digit_breaks : (p : List ℕ) (count number b : ℕ) → Reads (Digits count number) p → IsAsciiDigit b → (8 ≤ count) ⊎ (CONTENT_LIMIT < 10 * number + (b - 48)) → NeverBegins (p ++ b ∷ [])
-digit_breaks p count number b r digit over = subst (λ t. NeverBegins (t ++ b ∷ [])) (sym r.whole) (no_next (field_name ++ r.digits) b (λ x body after w.
-    elim (digits_behind r.digits b x body after r.each w) [
-      | inl p ↦ absurd (omega (arith, p.0, digit))
-      | inr g ↦ elim over [
-        | inl many ↦ absurd (omega (arith, w.is.size.eight, ap length g.whole, length-append r.digits (b ∷ g.tail), r.counted))
-        | inr large ↦ absurd (omega (
-          arith,
-          w.is.size.limit,
-          w.is.size.number,
-          ap (number_behind 0) g.whole,
-          number_behind-append 0 r.digits (b ∷ g.tail),
-          ap (λ n. number_behind (10 * n + (b - 48)) g.tail) r.written,
-          number_grows (10 * number + (b - 48)) g.tail,
-        ))
-      ]
-    ]))
-
--- the same of the figure that the digit stands for
-pub figure_goes_on : (p : List ℕ) (count number figure next : ℕ) → Reads (Digits count number) p → figure < 10 → count ≢ 8 → next ≡ 10 * number + figure → next ≤ CONTENT_LIMIT → Reads (Digits (count + 1) next) (p ++ (48 + figure) ∷ [])
-figure_goes_on p count number figure next r small few same fits =
-    let value : 10 * number + ((48 + figure) - 48) ≡ next = omega arith in
-    let room : count < 8 = omega (arith, r.eight) in
-    let within : 10 * number + ((48 + figure) - 48) ≤ CONTENT_LIMIT = omega arith in
-    let digit : IsAsciiDigit (48 + figure) = (omega arith, omega arith) in
-    subst (λ n. Reads (Digits (count + 1) n) (p ++ (48 + figure) ∷ [])) value (digit_goes_on p count number (48 + figure) r digit room within)
-
-pub figure_breaks : (p : List ℕ) (count number figure next : ℕ) → Reads (Digits count number) p → figure < 10 → next ≡ 10 * number + figure → (count ≡ 8) ⊎ (CONTENT_LIMIT < next) → NeverBegins (p ++ (48 + figure) ∷ [])
-figure_breaks p count number figure next r small same over =
-    let digit : IsAsciiDigit (48 + figure) = (omega arith, omega arith) in
-    digit_breaks p count number (48 + figure) r digit (elim over [ inl many ↦ inl (omega arith) | inr large ↦ inr (omega arith) ])
-
-one_end : take 1 line_ends ≡ 13 ∷ []
-unfolding line_ends
-one_end = refl
-
-pub digits_end : (p : List ℕ) (count number : ℕ) → Reads (Digits count number) p → 0 < count → Reads (Ends 1 count number) (p ++ 13 ∷ [])
-digits_end p count number r some = record {
-  digits = r.digits;
-  counted = r.counted;
-  sized = record { each = r.each; one = omega (arith, r.counted); eight = omega (arith, r.counted, r.eight); number = r.written; limit = r.limit };
-  inside = omega arith;
-  whole = ap (λ t. t ++ 13 ∷ []) r.whole ∙ append_assoc field_name r.digits (13 ∷ []) ∙ ap (λ t. field_name ++ (r.digits ++ t)) (sym one_end);
-}
-
-pub digits_break : (p : List ℕ) (count number b : ℕ) → Reads (Digits count number) p → (IsAsciiDigit b → ⊥) → (b ≡ 13 → count ≡ 0) → NeverBegins (p ++ b ∷ [])
-digits_break p count number b r other early = subst (λ t. NeverBegins (t ++ b ∷ [])) (sym r.whole) (no_next (field_name ++ r.digits) b (λ x body after w.
-    elim (digits_behind r.digits b x body after r.each w) [
-      | inl p ↦ absurd (omega (arith, early p.0, w.is.size.one, ap length p.1, r.counted))
-      | inr g ↦ other g.digit
-    ]))
-
--- The line ends behind the digits.
-first_end : (came : ℕ) (x : List ℕ) → 0 < came → take came line_ends ++ x ≡ 13 ∷ (take (came - 1) (drop 1 line_ends) ++ x)
-unfolding line_ends
-first_end zero x h = absurd (omega arith)
-first_end (suc n) x h = rw sub-one
-
-ends_next : (came count size : ℕ) (p : List ℕ) (b : ℕ) → (r : IsInEnds came count size p) → 0 < came → (x body after : List ℕ) → BeginsWith (p ++ (b ∷ x)) body after → b ≡ get_or line_ends came 0
-ends_next came count size p b r begun x body after w =
-    let here = sym (stands _ body after w) ∙ ap (λ t. t ++ (b ∷ x)) r.whole
-    ∙ append_assoc field_name (r.digits ++ take came line_ends) (b ∷ x) ∙ ap (λ t. field_name ++ t) (append_assoc r.digits (take came line_ends) (b ∷ x)) in
-    let e = append_cancel_left field_name _ _ here in
-    let plain = sym (ap (λ t. w.is.digits ++ t) (line_ends-first (body ++ after))) ∙ e ∙ ap (λ t. r.digits ++ t) (first_end came (b ∷ x) begun) in
-    let same : w.is.digits ≡ r.digits = elim (digits-next r.digits w.is.digits 13 _ _ r.sized.each w.is.size.each plain) [
-      | inl q ↦ q.1
-      | inr g ↦ absurd (omega (arith, g.digit))
-    ] in
-    let rest = append_cancel_left r.digits _ _ (sym (ap (λ t. t ++ (line_ends ++ (body ++ after))) same) ∙ e) in
-    text_next line_ends came b x (body ++ after) (omega (arith, length-line_ends, r.inside)) rest
-
-pub ends_break : (p : List ℕ) (came count size b : ℕ) → Reads (Ends came count size) p → 0 < came → b ≢ get_or line_ends came 0 → NeverBegins (p ++ b ∷ [])
-ends_break p came count size b r begun other = no_next p b (λ x body after w. other (ends_next came count size p b r begun x body after w))
-
--- a part with some of the line ends, and one byte more
-ends_push : (came count size : ℕ) (p : List ℕ) (b : ℕ) → (r : IsInEnds came count size p) → b ≡ get_or line_ends came 0 → p ++ b ∷ [] ≡ field_name ++ (r.digits ++ take (came + 1) line_ends)
-ends_push came count size p b r same =
-    let inside : came < length line_ends = omega (arith, length-line_ends, r.inside) in
-    ap (λ t. t ++ b ∷ []) r.whole ∙ append_assoc field_name (r.digits ++ take came line_ends) (b ∷ [])
-    ∙ ap (λ t. field_name ++ t) (append_assoc r.digits (take came line_ends) (b ∷ [])
-    ∙ ap (λ t. r.digits ++ t) (ap (λ c. take came line_ends ++ c ∷ []) same ∙ sym (take_more line_ends came 0 inside)))
-
-pub ends_go_on : (p : List ℕ) (came count size b : ℕ) → Reads (Ends came count size) p → b ≡ get_or line_ends came 0 → came + 1 < 4 → Reads (Ends (came + 1) count size) (p ++ b ∷ [])
-ends_go_on p came count size b r same inside = record {
-  digits = r.digits;
-  counted = r.counted;
-  sized = r.sized;
-  inside = inside;
-  whole = ends_push came count size p b r same;
-}
-
--- a header, and nothing behind it yet
-header_push : (came count size : ℕ) (p : List ℕ) (b : ℕ) → (r : IsInEnds came count size p) → b ≡ get_or line_ends came 0 → 4 ≤ came + 1 → p ++ b ∷ [] ≡ field_name ++ (r.digits ++ (line_ends ++ []))
-header_push came count size p b r same last =
-    ends_push came count size p b r same
-    ∙ ap (λ t. field_name ++ (r.digits ++ t)) (take_all (came + 1) line_ends (omega (arith, length-line_ends)) ∙ sym (append-nil line_ends))
-
-pub ends_open : (p : List ℕ) (came count size b : ℕ) → Reads (Ends came count size) p → b ≡ get_or line_ends came 0 → 4 ≤ came + 1 → 0 < size → Reads (Content (20 + count) size size) (p ++ b ∷ [])
-ends_open p came count size b r same last some = record {
-  digits = r.digits;
+pub header_opens : (came : ℕ) (head : Head) (size : ℕ) (p : List ℕ) (b : ℕ) → IsInHeader came head p → came < HEADER_LIMIT → spot_next head.spot head.size b ≡ Closed size → 0 < size → IsInContent (came + 1) size size (p ++ b ∷ [])
+header_opens came head size p b r inside e some = record {
+  front = p ++ b ∷ [];
   content = [];
-  sized = r.sized;
-  counted = omega (arith, r.counted);
+  closed = header_ends came head size p b r e;
+  counted = omega (arith, length_push p b, r.counted);
+  limit = omega arith;
   some = some;
   left = omega arith;
-  whole = header_push came count size p b r same last;
+  whole = sym (append-nil (p ++ b ∷ []));
 }
 
--- the header of a frame
-header_length : (digits : List ℕ) → length (field_name ++ (digits ++ line_ends)) ≡ 20 + length digits
-header_length digits = omega (arith, length-append field_name (digits ++ line_ends), length-append digits line_ends, length-field_name, length-line_ends)
+pub header_whole : (came : ℕ) (head : Head) (size : ℕ) (p : List ℕ) (b : ℕ) → IsInHeader came head p → came < HEADER_LIMIT → spot_next head.spot head.size b ≡ Closed size → size ≡ 0 → IsMarked (record { header = came + 1; content = 0 }) (p ++ b ∷ [])
+header_whole came head size p b r inside e empty = record {
+  front = p ++ b ∷ [];
+  body = [];
+  «is» = record {
+    header = p ++ b ∷ [];
+    «is» = closed_header (p ++ b ∷ []) 0 (header_ends came head size p b r e ∙ ap Closed empty);
+    limit = omega (arith, length_push p b, r.counted);
+    whole = sym (append-nil (p ++ b ∷ []));
+  };
+  whole = sym (append-nil (p ++ b ∷ []));
+  header = omega (arith, length_push p b, r.counted);
+  content = refl;
+}
 
-header_body : (digits body : List ℕ) → field_name ++ (digits ++ (line_ends ++ body)) ≡ (field_name ++ (digits ++ line_ends)) ++ body
-header_body digits body =
-    ap (λ t. field_name ++ t) (sym (append_assoc digits line_ends body)) ∙ sym (append_assoc field_name (digits ++ line_ends) body)
+pub header_breaks : (offset place came : ℕ) (head : Head) (kind : DamageKind) (p : List ℕ) (b : ℕ) → offset + length p ≡ place → IsInHeader came head p → Breaks kind head came b → IsBad offset (record { place = place; kind = kind }) (p ++ b ∷ [])
+header_breaks offset place came head kind p b at r breaks = record {
+  head = head;
+  came = came;
+  front = p;
+  byte = b;
+  after = [];
+  part = r;
+  breaks = breaks;
+  place = omega (arith, at, r.counted);
+  whole = refl;
+}
 
-pub ends_whole : (p : List ℕ) (came count size b : ℕ) → Reads (Ends came count size) p → b ≡ get_or line_ends came 0 → 4 ≤ came + 1 → size ≡ 0 → IsMarked (record { header = 20 + count; content = 0 }) (p ++ b ∷ [])
-ends_whole p came count size b r same last empty =
-    let e = header_push came count size p b r same last in
-    record {
-      front = field_name ++ (r.digits ++ line_ends);
-      body = [];
-      «is» = record { digits = r.digits; size = subst (IsSize r.digits) empty r.sized; whole = e };
-      whole = e ∙ header_body r.digits [];
-      header = header_length r.digits ∙ ap (λ n. 20 + n) r.counted;
-      content = refl;
-    }
+pub bad_more : (offset : ℕ) (damage : Damage) (p x : List ℕ) → IsBad offset damage p → IsBad offset damage (p ++ x)
+bad_more offset damage p x r = record {
+  head = r.head;
+  came = r.came;
+  front = r.front;
+  byte = r.byte;
+  after = r.after ++ x;
+  part = r.part;
+  breaks = r.breaks;
+  place = r.place;
+  whole = ap (λ t. t ++ x) r.whole ∙ append_assoc r.front (r.byte ∷ r.after) x;
+}
 
--- The content.
-content_push : (header size missing : ℕ) (p t : List ℕ) → (r : IsInContent header size missing p) → p ++ t ≡ field_name ++ (r.digits ++ (line_ends ++ (r.content ++ t)))
-content_push header size missing p t r =
-    ap (λ l. l ++ t) r.whole ∙ append_assoc field_name _ t
-    ∙ ap (λ l. field_name ++ l) (append_assoc r.digits _ t ∙ ap (λ l. r.digits ++ l) (append_assoc line_ends r.content t))
+-- More bytes of a content.
+content_push : (header size missing : ℕ) (p t : List ℕ) → (r : IsInContent header size missing p) → p ++ t ≡ r.front ++ (r.content ++ t)
+content_push header size missing p t r = ap (λ l. l ++ t) r.whole ∙ append_assoc r.front r.content t
 
-pub content_goes_on : (p t : List ℕ) (header size missing n : ℕ) → Reads (Content header size missing) p → length t ≡ n → n < missing → Reads (Content header size (missing - n)) (p ++ t)
+pub content_goes_on : (p t : List ℕ) (header size missing n : ℕ) → IsInContent header size missing p → length t ≡ n → n < missing → IsInContent header size (missing - n) (p ++ t)
 content_goes_on p t header size missing n r long short = record {
-  digits = r.digits;
+  front = r.front;
   content = r.content ++ t;
-  sized = r.sized;
+  closed = r.closed;
   counted = r.counted;
+  limit = r.limit;
   some = omega arith;
   left = omega (arith, r.left, length-append r.content t);
   whole = content_push header size missing p t r;
 }
 
-pub content_whole : (p t : List ℕ) (header size missing : ℕ) → Reads (Content header size missing) p → length t ≡ missing → IsMarked (record { header = header; content = size }) (p ++ t)
+pub content_whole : (p t : List ℕ) (header size missing : ℕ) → IsInContent header size missing p → length t ≡ missing → IsMarked (record { header = header; content = size }) (p ++ t)
 content_whole p t header size missing r all =
-    let e = content_push header size missing p t r in
     let long : size ≡ length (r.content ++ t) = omega (arith, r.left, length-append r.content t) in
     record {
-      front = field_name ++ (r.digits ++ line_ends);
+      front = r.front;
       body = r.content ++ t;
-      «is» = record { digits = r.digits; size = subst (IsSize r.digits) long r.sized; whole = e };
-      whole = e ∙ header_body r.digits (r.content ++ t);
-      header = header_length r.digits ∙ sym r.counted;
+      «is» = record {
+        header = r.front;
+        «is» = subst (IsHeader r.front) long (closed_header r.front size r.closed);
+        limit = omega (arith, r.counted, r.limit);
+        whole = content_push header size missing p t r;
+      };
+      whole = content_push header size missing p t r;
+      header = r.counted;
       content = sym long;
+    }
+
+-- A part that no byte broke is a proper front of a frame.
+pub header_cut : (came : ℕ) (head : Head) (p : List ℕ) → IsInHeader came head p → IsCut p
+header_cut came head p r = on_cut p head r.leads (omega (arith, r.counted, r.limit))
+
+pub content_cut : (header size missing : ℕ) (p : List ℕ) → IsInContent header size missing p → IsCut p
+content_cut header size missing p r =
+    let rest = zeros missing in
+    let long : size ≡ length (r.content ++ rest) = omega (arith, r.left, length-append r.content rest, length-zeros missing) in
+    record {
+      begins = record {
+        more = rest;
+        header = r.front;
+        body = r.content ++ rest;
+        «is» = subst (IsHeader r.front) long (closed_header r.front size r.closed);
+        limit = inr (omega (arith, r.counted, r.limit));
+        whole = content_push header size missing p rest r;
+      };
+      some = omega (arith, length-zeros missing, r.some);
+    }
+
+-- A byte that breaks a header part.
+pub kind_breaks : (came : ℕ) (head : Head) (kind : DamageKind) (p : List ℕ) (b : ℕ) → IsInHeader came head p → spot_next head.spot head.size b ≡ Bad kind → BreaksAt kind p b
+kind_breaks came head kind p b r bad = subst (λ n. Leads n p b) bad (stands_leads head p b (reading_stands p head r.leads))
+
+not_truncated : (kind : DamageKind) (p : List ℕ) (b : ℕ) → BreaksAt kind p b → kind ≡ Truncated → ⊥
+not_truncated kind p b r e = (subst (λ k. BreaksAt k p b) e r).of_kind
+
+-- no frame begins with a header part that is broken, however it goes on
+broken_never : (bytes : List ℕ) (kind : DamageKind) → reading bytes ≡ Bad kind → (kind ≡ Truncated → ⊥) → NeverBegins bytes
+broken_never bytes kind bad other = record {
+  none = record { none = λ body after w. bad_no_header bytes kind [] w.is.header (body ++ after) (length body) bad other w.is.is (append-nil bytes ∙ stands bytes body after w) };
+  never = λ w. bad_no_header bytes kind w.more w.header w.body (length w.body) bad other w.is w.whole;
+}
+
+-- a header part that is within its limit stands in the bytes in front of their last one
+front_header : (p header : List ℕ) (b : ℕ) (x y : List ℕ) → length header ≤ length p → (p ++ b ∷ []) ++ x ≡ header ++ y → GoesOver header p y (b ∷ x)
+front_header p header b x y short e = elim (fronts header p y (b ∷ x) (sym (sym (append_assoc p (b ∷ []) x) ∙ e))) [
+  | inl o ↦ o
+  | inr o ↦ (
+      let none : o.mid ≡ [] = nil_of o.mid (omega (arith, ap length o.longer, length-append p o.mid)) in
+      record {
+        mid = [];
+        longer = sym (o.longer ∙ ap (λ t. p ++ t) none ∙ append-nil p) ∙ sym (append-nil header);
+        rest = sym (o.rest ∙ ap (λ t. t ++ y) none);
+      }
+      )
+] where
+  nil_of : (xs : List ℕ) → length xs ≡ 0 → xs ≡ []
+  nil_of [] e = refl
+  nil_of (x ∷ xs) e = absurd (omega arith)
+
+-- no frame begins with a header part that has more bytes than its limit
+long_never : (came : ℕ) (head : Head) (p : List ℕ) (b : ℕ) → IsInHeader came head p → came ≡ HEADER_LIMIT → NeverBegins (p ++ b ∷ [])
+long_never came head p b r full = record {
+  none = record {
+    none = λ body after w.
+        let o = front_header p w.is.header b [] (body ++ after) (omega (arith, w.is.limit, r.counted)) (append-nil (p ++ b ∷ []) ∙ stands (p ++ b ∷ []) body after w) in
+        on_no_header p head w.is.header o.mid (length body) r.leads w.is.is o.longer;
+  };
+  never = λ w.
+      let short : length w.header ≤ length p = elim w.limit [
+        | inl h ↦ absurd (omega (arith, h, length_push p b, r.counted))
+        | inr h ↦ omega (arith, h, r.counted)
+      ] in
+      let o = front_header p w.header b w.more w.body short w.whole in
+      on_no_header p head w.header o.mid (length w.body) r.leads w.is o.longer;
+}
+
+pub breaks_never : (came : ℕ) (head : Head) (kind : DamageKind) (p : List ℕ) (b : ℕ) → IsInHeader came head p → Breaks kind head came b → NeverBegins (p ++ b ∷ [])
+breaks_never came head kind p b r breaks = elim breaks [
+  | inl h ↦ broken_never (p ++ b ∷ []) kind (run_on start (On head) p (b ∷ []) r.leads ∙ h.1) (not_truncated kind p b (kind_breaks came head kind p b r h.1))
+  | inr h ↦ long_never came head p b r h.0
+]
+
+pub bad_never : (offset : ℕ) (damage : Damage) (p : List ℕ) → IsBad offset damage p → NeverBegins p
+bad_never offset damage p r =
+    subst NeverBegins (append_assoc r.front (r.byte ∷ []) r.after ∙ sym r.whole)
+    (never_more (r.front ++ r.byte ∷ []) r.after (breaks_never r.came r.head damage.kind r.front r.byte r.part r.breaks))
+
+breaks_kind : (came : ℕ) (head : Head) (kind : DamageKind) (p : List ℕ) (b : ℕ) → IsInHeader came head p → Breaks kind head came b → BreaksHeader kind p b
+breaks_kind came head kind p b r breaks = elim breaks [
+  | inl h ↦ (
+      let k = kind_breaks came head kind p b r h.1 in
+      inl (record {
+        lines = k.lines.lines;
+        size = k.size;
+        line = k.line;
+        each = k.lines.each;
+        lengths = k.lines.lengths;
+        whole = k.lines.whole;
+        inside = omega (arith, r.counted, h.0);
+        of_kind = k.of_kind;
+      })
+      )
+  | inr h ↦ inr (h.1, r.counted ∙ h.0)
+]
+
+-- the damage of a part
+pub bad_damage : (offset : ℕ) (damage : Damage) (p : List ℕ) → (r : IsBad offset damage p) → DamageAt p r.came damage.kind
+bad_damage offset damage p r =
+    let cut = header_cut r.came r.head r.front r.part in
+    record {
+      front = r.front;
+      byte = r.byte;
+      after = r.after;
+      whole = r.whole;
+      counted = sym r.part.counted;
+      sound = begins_sound r.front cut.begins;
+      broken = never_broken (r.front ++ r.byte ∷ []) (breaks_never r.came r.head damage.kind r.front r.byte r.part r.breaks);
+      bodies = [];
+      part = r.front;
+      frames = record { frames = refl; none = cut_no_frame r.front cut };
+      breaks = breaks_kind r.came r.head damage.kind r.front r.byte r.part r.breaks;
     }

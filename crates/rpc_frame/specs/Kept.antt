@@ -8,4 +8,4 @@ pub record IsKept (d : Inside) : Type 0 where
   pub start : d.start ≤ length d.bytes.items
   pub bound : d.given_end + length (drop d.start d.bytes.items) ≤ STREAM_LIMIT
   pub within : IsWithin d.reading
-  pub scanned : Scanned d.reading d.marks.items (drop d.start d.bytes.items)
+  pub scanned : Scanned d.given_end d.reading d.marks.items (drop d.start d.bytes.items)

@@ -1,56 +1,64 @@
 -- What the decoder knows of the bytes that it keeps: whole frames with their marks, and a part of one.
-use Rattle.std.specs.Prelude.{◌≡◌, ℕ, ◌+◌, ◌<◌, ◌≤◌, List, [], ◌∷◌, ◌++◌, length, take}
-use Rattle.rpc_frame.specs.declared.TheConstants.{CONTENT_LIMIT}
+use Rattle.std.specs.Prelude.{◌≡◌, ℕ, ◌+◌, ◌<◌, ◌≤◌, ◌⊎◌, List, [], ◌∷◌, ◌++◌, length}
+use Rattle.rpc_frame.specs.declared.TheConstants.{HEADER_LIMIT}
+use Rattle.rpc_frame.specs.declared.damage.Damage.{Damage}
+use Rattle.rpc_frame.specs.declared.damage.DamageKind.{DamageKind}
+use Rattle.rpc_frame.specs.declared.damage.DamageKind.TheVariants.{HeaderTooLong}
+use Rattle.rpc_frame.specs.declared.head.Head.{Head}
+use Rattle.rpc_frame.specs.declared.head.Next.TheVariants.{On, Closed, Bad}
 use Rattle.rpc_frame.specs.declared.reading.Reading.{Reading}
-use Rattle.rpc_frame.specs.declared.reading.Reading.TheVariants.{Name, Digits, Ends, Content, Broken}
+use Rattle.rpc_frame.specs.declared.reading.Reading.TheVariants.{Header, Content, Broken}
 use Rattle.rpc_frame.specs.declared.reading.Mark.{Mark}
 use Rattle.rpc_frame.specs.declared.reading.Step.{Step}
 use Rattle.rpc_frame.specs.declared.reading.Step.TheVariants.{Inside, Whole}
-use Rattle.rpc_frame.specs.Frames.{field_name, line_ends, AreDigits, number_behind, IsSize, IsFrame, NeverBegins}
+use Rattle.rpc_frame.specs.Frames.{IsFrame}
+use Rattle.rpc_frame.specs.Heads.{reading, spot_next}
+use Rattle.rpc_frame.specs.Spots.{IsFit}
 
--- the name of the field, and so many digits that write this number
-pub record IsInDigits (count number : ℕ) (bytes : List ℕ) : Type 0 where
-  pub digits : List ℕ
-  pub each : AreDigits digits
-  pub counted : length digits ≡ count
-  pub eight : count ≤ 8
-  pub written : number_behind 0 digits ≡ number
-  pub limit : number ≤ CONTENT_LIMIT
-  pub whole : bytes ≡ field_name ++ digits
+-- so many bytes of a header part, which lead to this head
+pub record IsInHeader (came : ℕ) (head : Head) (bytes : List ℕ) : Type 0 where
+  pub counted : length bytes ≡ came
+  pub limit : came ≤ HEADER_LIMIT
+  pub leads : reading bytes ≡ On head
 
--- the name, so many digits that write this size, and so many bytes of the line ends
-pub record IsInEnds (came count size : ℕ) (bytes : List ℕ) : Type 0 where
-  pub digits : List ℕ
-  pub counted : length digits ≡ count
-  pub sized : IsSize digits size
-  pub inside : came < 4
-  pub whole : bytes ≡ field_name ++ (digits ++ take came line_ends)
-
--- a header of so many bytes, and a content of this size of which so many bytes are missing
+-- a header part of so many bytes, and a content of this size of which so many bytes are missing
 pub record IsInContent (header size missing : ℕ) (bytes : List ℕ) : Type 0 where
-  pub digits : List ℕ
+  pub front : List ℕ
   pub content : List ℕ
-  pub sized : IsSize digits size
-  pub counted : header ≡ 20 + length digits
+  pub closed : reading front ≡ Closed size
+  pub counted : length front ≡ header
+  pub limit : header ≤ HEADER_LIMIT
   pub some : 0 < missing
   pub left : length content + missing ≡ size
-  pub whole : bytes ≡ field_name ++ (digits ++ (line_ends ++ content))
+  pub whole : bytes ≡ front ++ content
 
--- the bytes are a part of a frame, as the reading says
-abbrev pub Reads : Reading → List ℕ → Type 0
-Reads (Name at) bytes = (at < 16) × (bytes ≡ take at field_name)
-Reads (Digits count number) bytes = IsInDigits count number bytes
-Reads (Ends came count size) bytes = IsInEnds came count size bytes
-Reads (Content header size missing) bytes = IsInContent header size missing bytes
-Reads Broken bytes = NeverBegins bytes
+-- what comes of a head by one byte is damage of this kind; or the header part has all bytes that it may have
+abbrev pub Breaks : DamageKind → Head → ℕ → ℕ → Type 0
+Breaks kind head came byte = ((came < HEADER_LIMIT) × (spot_next head.spot head.size byte ≡ Bad kind)) ⊎ ((came ≡ HEADER_LIMIT) × (kind ≡ HeaderTooLong))
+
+-- behind a part that stands at this place of the stream, a byte is damage
+pub record IsBad (offset : ℕ) (damage : Damage) (bytes : List ℕ) : Type 0 where
+  pub head : Head
+  pub came : ℕ
+  pub front : List ℕ
+  pub byte : ℕ
+  pub after : List ℕ
+  pub part : IsInHeader came head front
+  pub breaks : Breaks damage.kind head came byte
+  pub place : damage.place ≡ offset + came
+  pub whole : bytes ≡ front ++ (byte ∷ after)
+
+-- the bytes, at this place of the stream, are a part of a frame, as the reading says
+abbrev pub Reads : ℕ → Reading → List ℕ → Type 0
+Reads offset (Header came head) bytes = IsInHeader came head bytes
+Reads offset (Content header size missing) bytes = IsInContent header size missing bytes
+Reads offset (Broken damage) bytes = IsBad offset damage bytes
 
 -- the numbers of a reading are within their limits
 abbrev pub IsWithin : Reading → Type 0
-IsWithin (Name at) = at < 16
-IsWithin (Digits count number) = (count ≤ 8) × (number ≤ CONTENT_LIMIT)
-IsWithin (Ends came count size) = (0 < came) × (came < 4) × (count ≤ 8)
-IsWithin (Content header size missing) = 0 < missing
-IsWithin Broken = Unit {0}
+IsWithin (Header came head) = (came ≤ HEADER_LIMIT) × IsFit head.spot
+IsWithin (Content header size missing) = (0 < missing) × (header ≤ HEADER_LIMIT)
+IsWithin (Broken damage) = Unit {0}
 
 -- the mark says where the content of the frame begins and ends
 pub record IsMarked (mark : Mark) (frame : List ℕ) : Type 0 where
@@ -62,9 +70,9 @@ pub record IsMarked (mark : Mark) (frame : List ℕ) : Type 0 where
   pub content : length body ≡ mark.content
 
 -- the bytes are a part of a frame, or the whole of one
-abbrev pub Makes : Step → List ℕ → Type 0
-Makes (Inside reading) bytes = Reads reading bytes
-Makes (Whole mark) bytes = IsMarked mark bytes
+abbrev pub Makes : ℕ → Step → List ℕ → Type 0
+Makes offset (Inside reading) bytes = Reads offset reading bytes
+Makes offset (Whole mark) bytes = IsMarked mark bytes
 
 abbrev pub IsWithinStep : Step → Type 0
 IsWithinStep (Inside reading) = IsWithin reading
@@ -83,17 +91,21 @@ abbrev pub Marked : List ℕ → List Mark → List ℕ → Type 0
 Marked bytes [] rest = bytes ≡ rest
 Marked bytes (mark ∷ marks) rest = MarkThen bytes mark (λ after. Marked after marks rest)
 
--- the bytes are frames with these marks, and then a part of one
-pub record Scanned (reading : Reading) (marks : List Mark) (bytes : List ℕ) : Type 0 where
+-- the bytes, from this place of the stream on, are frames with these marks, and then a part of one
+pub record Scanned (from : ℕ) (reading : Reading) (marks : List Mark) (bytes : List ℕ) : Type 0 where
   pub part : List ℕ
+  pub offset : ℕ
+  pub counted : offset + length part ≡ from + length bytes
   pub marked : Marked bytes marks part
-  pub reads : Reads reading part
+  pub reads : Reads offset reading part
 
 -- the same, where the part may have come whole
-pub record Stepped (step : Step) (marks : List Mark) (bytes : List ℕ) : Type 0 where
+pub record Stepped (from : ℕ) (step : Step) (marks : List Mark) (bytes : List ℕ) : Type 0 where
   pub part : List ℕ
+  pub offset : ℕ
+  pub counted : offset + length part ≡ from + length bytes
   pub marked : Marked bytes marks part
-  pub makes : Makes step part
+  pub makes : Makes offset step part
 
 -- the second list is the first, and then others
 pub record GoesOn (first second : List Mark) : Type 0 where
@@ -101,7 +113,9 @@ pub record GoesOn (first second : List Mark) : Type 0 where
   pub whole : second ≡ first ++ more
 
 -- From the first reading and its marks, the bytes of the piece before the rest led to the next ones.
-pub record ReadsOn (first next : Reading) (before after : List Mark) (piece rest : List ℕ) : Type 0 where
+-- The stream has so many bytes before the piece, and before its rest.
+pub record ReadsOn (first next : Reading) (before after : List Mark) (piece rest : List ℕ) (begun place : ℕ) : Type 0 where
   pub seen : List ℕ
   pub cut : piece ≡ seen ++ rest
-  pub scanned : (bytes : List ℕ) → Scanned first before bytes → Scanned next after (bytes ++ seen)
+  pub place_is : place ≡ begun + length seen
+  pub scanned : (from : ℕ) (bytes : List ℕ) → from + length bytes ≡ begun → Scanned from first before bytes → Scanned from next after (bytes ++ seen)

@@ -2,16 +2,22 @@
 //! pieces is cut into the contents of its frames, and a content is written as a frame.
 #![tactic(auto)]
 
+mod damage;
+mod head;
 mod reading;
 mod scan;
 mod stream;
 mod write;
 
-pub use stream::{Decoder, FeedFault};
+pub use damage::{Damage, DamageKind, FeedFault};
+pub use stream::Decoder;
 pub use write::frame_into;
 
 #[cfg(test)]
 mod tests;
+
+/// The most bytes that the header part of a frame may have, with the empty line that closes it.
+pub const HEADER_LIMIT: usize = 1_024;
 
 /// The most bytes that the content of a frame may have.
 pub const CONTENT_LIMIT: usize = 16_777_216;

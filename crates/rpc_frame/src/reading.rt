@@ -1,44 +1,30 @@
-ghost use Rattle.std.specs.Prelude.{◌≡◌, ℕ, ◌+◌, ◌<◌, ◌≤◌, ◌↔◌, List, [], ◌∷◌, ◌++◌, length, take, IsTrue};
+ghost use Rattle.std.specs.Prelude.{◌≡◌, ℕ, ◌+◌, ◌<◌, ◌≤◌, ◌↔◌, List, [], ◌∷◌, ◌++◌, length, take, IsTrue, IsSome, IfSome, IfNone};
 ghost use Rattle.rpc_frame.specs.Partial.{IsWithin, IsWithinStep, Makes, Reads};
+ghost use Rattle.rpc_frame.specs.Spots.{IsFit};
 
-use crate::CONTENT_LIMIT;
-
-/// The one header line of a frame, up to its number.
-pub const LENGTH_FIELD: &[u8; 16] = b"Content-Length: ";
-
-/// The end of that line, and the empty line that closes the header.
-pub const LINE_ENDS: &[u8; 4] = b"\r\n\r\n";
-
-/// The most digits that the number may have.
-const DIGIT_LIMIT: usize = 8;
+use crate::HEADER_LIMIT;
+use crate::damage::{Damage, DamageKind};
+use crate::head::{Head, Next, Spot};
 
 /// What has come of the frame behind the last whole one.
 #[derive(Clone, Copy, Debug)]
 pub enum Reading {
-    /// So many bytes of the length field.
-    Name(usize),
-    /// The field, and so many digits that write this number.
-    Digits {
-        count: usize,
-        number: usize,
-    },
-    /// The field, so many digits that write this size, and so many bytes of the line ends.
-    Ends {
+    /// So many bytes of its header part.
+    Header {
         came: usize,
-        count: usize,
-        size: usize,
+        head: Head,
     },
-    /// A header of so many bytes, and a content of this size of which so many bytes are missing.
+    /// A header part of so many bytes, and a content of this size of which so many bytes are missing.
     Content {
         header: usize,
         size: usize,
         missing: usize,
     },
     /// No frame begins so, however it goes on.
-    Broken,
+    Broken(Damage),
 }
 
-/// How many bytes the header and the content of a whole frame have.
+/// How many bytes the header part and the content of a whole frame have.
 #[derive(Clone, Copy, Debug)]
 pub struct Mark {
     pub header: usize,
@@ -56,131 +42,89 @@ pub enum Step {
 
 impl Reading {
     /// Where a frame begins.
-    pub const START: Reading = Reading::Name(0);
+    pub const START: Reading = Reading::Header {
+        came: 0,
+        head: Head::START,
+    };
 
+    /// Whether nothing has come of a frame.
     pub fn is_start(self) -> bool
-        ensures { IsTrue result ↔ (self ≡ Reading.Name 0) }
+        ensures start { IsTrue result → (head : Head) × (self ≡ Reading.Header 0 head) }
+        ensures other { (head : Head) → self ≡ Reading.Header 0 head → IsTrue result }
     {
         match self {
-            Reading::Name(at) => at == 0,
+            Reading::Header { came, .. } => came == 0,
             _ => false,
         }
     }
 
-    pub fn is_broken(self) -> bool
-        ensures { IsTrue result ↔ (self ≡ Reading.Broken) }
+    pub fn damage(self) -> Option<Damage>
+        ensures some { IfSome result (λ damage. self ≡ Reading.Broken damage) }
+        ensures none { IfNone result ((damage : Damage) → self ≡ Reading.Broken damage → ⊥) }
     {
         match self {
-            Reading::Broken => true,
-            _ => false,
+            Reading::Broken(damage) => Some(damage),
+            _ => None,
         }
     }
 
-    /// Reads some of these bytes, and tells how many: one of a header, or all of the content that
-    /// have come.
-    pub fn step(self, bytes: &[u8]) -> (Step, usize)
+    /// Reads some of these bytes, which stand at this place of the stream, and tells how many: one of
+    /// a header part, or all of the content that have come.
+    pub fn step(self, place: u64, bytes: &[u8]) -> (Step, usize)
         requires some { 0 < length bytes.now }
         requires within { IsWithin self }
         ensures progress { 0 < result.1 }
         ensures inside { result.1 ≤ length bytes.now }
         ensures within { IsWithinStep result.0 }
-        ensures makes { (part : List ℕ) → Reads self part
-            → Makes result.0 (part ++ take result.1 bytes.now) }
+        ensures makes { (offset : ℕ) (part : List ℕ) → offset + length part ≡ place
+            → Reads offset self part → Makes offset result.0 (part ++ take result.1 bytes.now) }
     {
         match self {
-            Reading::Name(at) => (Step::Inside(after_name(at, bytes[0])), 1),
-            Reading::Digits { count, number } => {
-                (Step::Inside(after_digit(count, number, bytes[0])), 1)
-            }
-            Reading::Ends { came, count, size } => (after_end(came, count, size, bytes[0]), 1),
+            Reading::Header { came, head } => (after_header(came, head, place, bytes[0]), 1),
             Reading::Content {
                 header,
                 size,
                 missing,
             } => after_content(header, size, missing, bytes.len()),
-            Reading::Broken => (Step::Inside(Reading::Broken), bytes.len()),
+            Reading::Broken(damage) => (Step::Inside(Reading::Broken(damage)), bytes.len()),
         }
     }
 }
 
-fn after_name(at: usize, byte: u8) -> Reading
-    requires { at < 16 }
-    ensures within { IsWithin result }
-    ensures reads { (part : List ℕ) → Reads (Reading.Name at) part
-        → Reads result (part ++ byte ∷ []) }
-{
-    if byte != LENGTH_FIELD[at] {
-        return Reading::Broken;
-    }
-    if at + 1 < LENGTH_FIELD.len() {
-        return Reading::Name(at + 1);
-    }
-    Reading::Digits {
-        count: 0,
-        number: 0,
-    }
-}
-
-fn after_digit(count: usize, number: usize, byte: u8) -> Reading
-    requires few { count ≤ 8 }
-    requires limit { number ≤ CONTENT_LIMIT }
-    ensures within { IsWithin result }
-    ensures reads { (part : List ℕ) → Reads (Reading.Digits count number) part
-        → Reads result (part ++ byte ∷ []) }
-{
-    if byte.is_ascii_digit() {
-        return after_figure(count, number, byte - b'0');
-    }
-    let closes = byte == LINE_ENDS[0];
-    if closes && count > 0 {
-        return Reading::Ends {
-            came: 1,
-            count,
-            size: number,
-        };
-    }
-    Reading::Broken
-}
-
-fn after_figure(count: usize, number: usize, figure: u8) -> Reading
-    requires few { count ≤ 8 }
-    requires limit { number ≤ CONTENT_LIMIT }
-    requires figure { figure < 10 }
-    ensures within { IsWithin result }
-    ensures reads { (part : List ℕ) → Reads (Reading.Digits count number) part
-        → Reads result (part ++ (48 + figure) ∷ []) }
-{
-    let number = 10 * number + usize::from(figure);
-    let full = count == DIGIT_LIMIT;
-    let large = number > CONTENT_LIMIT;
-    if full || large {
-        return Reading::Broken;
-    }
-    Reading::Digits {
-        count: count + 1,
-        number,
-    }
-}
-
-fn after_end(came: usize, count: usize, size: usize, byte: u8) -> Step
-    requires begun { 0 < came }
-    requires inside { came < 4 }
-    requires few { count ≤ 8 }
+fn after_header(came: usize, head: Head, place: u64, byte: u8) -> Step
+    requires limit { came ≤ HEADER_LIMIT }
+    requires fit { IsFit head.spot }
     ensures within { IsWithinStep result }
-    ensures makes { (part : List ℕ) → Reads (Reading.Ends came count size) part
-        → Makes result (part ++ byte ∷ []) }
+    ensures makes { (offset : ℕ) (part : List ℕ) → offset + length part ≡ place
+        → Reads offset (Reading.Header came head) part → Makes offset result (part ++ byte ∷ []) }
 {
-    if byte != LINE_ENDS[came] {
-        return Step::Inside(Reading::Broken);
+    let full = came == HEADER_LIMIT;
+    if full {
+        return broken(place, DamageKind::HeaderTooLong);
     }
-    if came + 1 < LINE_ENDS.len() {
-        return Step::Inside(Reading::Ends {
+    match head.next(byte) {
+        Next::On(head) => Step::Inside(Reading::Header {
             came: came + 1,
-            count,
-            size,
-        });
+            head,
+        }),
+        Next::Closed(size) => opened(came + 1, size),
+        Next::Bad(kind) => broken(place, kind),
     }
-    let header = LENGTH_FIELD.len() + LINE_ENDS.len() + count;
+}
+
+fn broken(place: u64, kind: DamageKind) -> Step
+    ensures { result ≡ Step.Inside (Reading.Broken (record { place = place; kind = kind })) }
+{
+    Step::Inside(Reading::Broken(Damage { place, kind }))
+}
+
+/// The start of a content behind a header part of so many bytes.
+fn opened(header: usize, size: usize) -> Step
+    requires { header ≤ HEADER_LIMIT }
+    ensures within { IsWithinStep result }
+    ensures empty { size ≡ 0 → result ≡ Step.Whole (record { header = header; content = 0 }) }
+    ensures some { 0 < size → result ≡ Step.Inside (Reading.Content header size size) }
+{
     if size == 0 {
         return Step::Whole(Mark { header, content: 0 });
     }
@@ -194,11 +138,12 @@ fn after_end(came: usize, count: usize, size: usize, byte: u8) -> Step
 fn after_content(header: usize, size: usize, missing: usize, ready: usize) -> (Step, usize)
     requires some { 0 < ready }
     requires missing { 0 < missing }
+    requires limit { header ≤ HEADER_LIMIT }
     ensures progress { 0 < result.1 }
     ensures inside { result.1 ≤ ready }
     ensures within { IsWithinStep result.0 }
-    ensures makes { (part taken : List ℕ) → Reads (Reading.Content header size missing) part
-        → length taken ≡ result.1 → Makes result.0 (part ++ taken) }
+    ensures makes { (offset : ℕ) (part taken : List ℕ) → Reads offset (Reading.Content header size missing) part
+        → length taken ≡ result.1 → Makes offset result.0 (part ++ taken) }
 {
     if ready < missing {
         let reading = Reading::Content {

@@ -1,30 +1,35 @@
 ghost use Rattle.std.specs.Prelude.{◌≡◌, ℕ, ◌+◌, ◌<◌, ◌≤◌, List, [], ◌∷◌, ◌++◌, length, take, IfOk, OnOk, OnErr};
 ghost use Rattle.rpc_frame.specs.Partial.{GoesOn, IsWithin, IsWithinStep, Scanned, Stepped};
 
+use crate::STREAM_LIMIT;
 use crate::reading::{Mark, Reading, Step};
 use ob_text::NoMemory;
 use std::collections::VecDeque;
 
-/// Puts the next bytes of the stream behind those that are kept, and marks each frame that they
-/// make whole. Looks at the new bytes alone, and not at those of a content. An `Err` changes nothing.
+/// Puts the next bytes of a stream, which has so many bytes before them, behind those that are kept,
+/// and marks each frame that they make whole. Looks at the new bytes alone, and not at those of a
+/// content. An `Err` changes nothing.
 pub fn append(
     bytes: &mut Vec<u8>,
     marks: &mut VecDeque<Mark>,
     reading: Reading,
+    begun: u64,
     piece: &[u8],
 ) -> Result<Reading, NoMemory>
-    requires { IsWithin reading }
+    requires within { IsWithin reading }
+    requires bound { begun + length piece.now ≤ STREAM_LIMIT }
     ensures bytes { OnOk result (bytes.new.items ≡ bytes.old.items ++ piece.now) }
     ensures within { IfOk result IsWithin }
-    ensures scanned { IfOk result (λ r. (waiting : List ℕ) → Scanned reading marks.old.items waiting
-        → Scanned r marks.new.items (waiting ++ piece.now)) }
+    ensures scanned { IfOk result (λ r. (from : ℕ) (waiting : List ℕ) → from + length waiting ≡ begun
+        → Scanned from reading marks.old.items waiting
+        → Scanned from r marks.new.items (waiting ++ piece.now)) }
     ensures err_bytes { OnErr result (bytes.new.items ≡ bytes.old.items) }
     ensures err_marks { OnErr result (marks.new.items ≡ marks.old.items) }
 {
     let kept = bytes.len();
     let marked = marks.len();
     bytes.extend_from_slice(piece)?;
-    match scan(reading, marks, piece) {
+    match scan(reading, marks, begun, piece) {
         Ok(next) => Ok(next),
         Err(NoMemory) => {
             bytes.truncate(kept);
@@ -35,18 +40,27 @@ pub fn append(
 }
 
 /// Reads the next bytes of the stream. Where it finds no memory, some marks may have been made.
-fn scan(mut reading: Reading, marks: &mut VecDeque<Mark>, piece: &[u8]) -> Result<Reading, NoMemory>
-    requires { IsWithin reading }
+fn scan(
+    mut reading: Reading,
+    marks: &mut VecDeque<Mark>,
+    begun: u64,
+    piece: &[u8],
+) -> Result<Reading, NoMemory>
+    requires within { IsWithin reading }
+    requires bound { begun + length piece.now ≤ STREAM_LIMIT }
     ensures within { IfOk result IsWithin }
-    ensures scanned { IfOk result (λ r. (waiting : List ℕ) → Scanned reading marks.old.items waiting
-        → Scanned r marks.new.items (waiting ++ piece.now)) }
+    ensures scanned { IfOk result (λ r. (from : ℕ) (waiting : List ℕ) → from + length waiting ≡ begun
+        → Scanned from reading marks.old.items waiting
+        → Scanned from r marks.new.items (waiting ++ piece.now)) }
     ensures goes_on { GoesOn marks.old.items marks.new.items }
 {
     let mut rest = piece;
+    let mut place = begun;
     'pieces: while !rest.is_empty() {
-        let (step, taken) = reading.step(rest);
+        let (step, taken) = reading.step(place, rest);
         reading = settle(step, marks)?;
         rest = rest.split_at(taken).1;
+        place += taken as u64;
     }
     Ok(reading)
 }
@@ -55,8 +69,8 @@ fn scan(mut reading: Reading, marks: &mut VecDeque<Mark>, piece: &[u8]) -> Resul
 fn settle(step: Step, marks: &mut VecDeque<Mark>) -> Result<Reading, NoMemory>
     requires { IsWithinStep step }
     ensures within { IfOk result IsWithin }
-    ensures scanned { IfOk result (λ r. (waiting : List ℕ) → Stepped step marks.old.items waiting
-        → Scanned r marks.new.items waiting) }
+    ensures scanned { IfOk result (λ r. (from : ℕ) (waiting : List ℕ)
+        → Stepped from step marks.old.items waiting → Scanned from r marks.new.items waiting) }
     ensures goes_on { GoesOn marks.old.items marks.new.items }
 {
     match step {

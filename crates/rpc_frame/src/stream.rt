@@ -1,6 +1,9 @@
-ghost use Rattle.std.specs.Prelude.{◌≡◌, ℕ, ◌+◌, ◌<◌, ◌≤◌, ◌↔◌, List, [], ◌++◌, length, IsTrue, IfOk, IfSome, IfNone, OnOk, OnErr, IsErrOf};
+ghost use Rattle.std.specs.Prelude.{◌≡◌, ℕ, ◌+◌, ◌<◌, ◌≤◌, ◌↔◌, List, [], ◌++◌, length, IsTrue, IfOk, IfErr, IfSome, IfNone, OnOk, OnErr, IsErrOf};
+ghost use Rattle.rpc_frame.specs.declared.damage.Damage.{Damage};
+ghost use Rattle.rpc_frame.specs.Damages.{HasDamage, IfDamaged};
 ghost use Rattle.rpc_frame.specs.Frames.{BeginsWith, HasNoFrame, IsBorder, IsBroken, IsSound};
 
+use crate::damage::{Damage, FeedFault};
 use crate::reading::{Mark, Reading};
 use crate::scan::append;
 use crate::{CONTENT_LIMIT, STREAM_LIMIT};
@@ -8,25 +11,6 @@ use ob_text::NoMemory;
 use std::alloc::Global;
 use std::collections::VecDeque;
 use std::marker::Model;
-
-/// Why a decoder takes no more of its stream.
-#[derive(Clone, Copy, Debug, PartialEq, Eq)]
-pub enum FeedFault {
-    /// The stream begins no list of frames, and never will.
-    Damaged,
-    NoMemory,
-}
-
-impl From<NoMemory> for FeedFault {
-    ghost use Rattle.std.specs.Prelude.{◌≡◌};
-    ghost use Rattle.rpc_frame.specs.declared.stream.FeedFault.TheVariants as fault;
-
-    ghost from_gives = { λ _ e. e ≡ fault.NoMemory };
-
-    fn from(_error: NoMemory) -> FeedFault {
-        FeedFault::NoMemory
-    }
-}
 
 /// Cuts a stream that comes in any pieces into the contents of its frames. Looks at each byte of a
 /// header once, and copies a content once.
@@ -80,15 +64,25 @@ impl Decoder {
             → self.new ≡ record self.old { bytes = self.old.bytes ++ piece.now } }
         ensures kept { IsErrOf result FeedFault.NoMemory → self.new ≡ self.old }
 
-        // Damage is told as soon as no list of frames can begin so, and from then on.
+        // Damage is told as soon as no list of frames can begin so, with its place and its kind.
         ensures sound { OnOk result (IsSound self.new.bytes) }
-        ensures damaged { IsErrOf result FeedFault.Damaged → IsBroken self.new.bytes }
+        ensures damaged { IfErr result (λ fault. IfDamaged fault (λ _. IsBroken self.new.bytes)) }
+        ensures place { IfErr result (λ fault. IfDamaged fault (HasDamage self.new)) }
+
+        // No other answer is given to a stream with damage, and the same damage is told from then on.
+        ensures exact { (damage : Damage) → HasDamage self.new damage
+            → (IsErrOf result FeedFault.NoMemory → ⊥)
+            → IsErrOf result (FeedFault.Damaged damage) }
+        ensures again { (damage : Damage) → HasDamage self.old damage
+            → (IsErrOf result FeedFault.NoMemory → ⊥)
+            → IsErrOf result (FeedFault.Damaged damage) }
     {
         self.compact();
-        let reading = append(&mut self.bytes, &mut self.marks, self.reading, piece)?;
+        let begun = self.given_end + (self.bytes.len() - self.start) as u64;
+        let reading = append(&mut self.bytes, &mut self.marks, self.reading, begun, piece)?;
         self.reading = reading;
-        if reading.is_broken() {
-            return Err(FeedFault::Damaged);
+        if let Some(damage) = reading.damage() {
+            return Err(FeedFault::Damaged(damage));
         }
         Ok(())
     }

@@ -1,25 +1,44 @@
 ghost use Rattle.std.specs.Prelude.{◌+◌, ◌<◌, ◌≤◌, length};
 
-use crate::{CONTENT_LIMIT, Decoder, FeedFault, STREAM_LIMIT, frame_into};
+use crate::{
+    CONTENT_LIMIT, Damage, DamageKind, Decoder, FeedFault, HEADER_LIMIT, STREAM_LIMIT, frame_into,
+};
 use std::alloc::Global;
 use std::test::Fail;
 
-/// The contents of a stream that comes in pieces of this many bytes, and whether it ended at a
-/// border.
-fn read(alloc: Global, stream: &[u8], size: usize) -> Result<(Vec<Vec<u8>>, bool), Fail>
+/// What a decoder says of a stream: the contents of its frames, whether it ended at a border, and
+/// the damage that it has.
+#[derive(Drop)]
+struct Outcome {
+    bodies: Vec<Vec<u8>>,
+    border: bool,
+    damage: Option<Damage>,
+}
+
+/// Feeds a stream in pieces of this many bytes.
+fn read(alloc: Global, stream: &[u8], size: usize) -> Result<Outcome, Fail>
     requires some { 0 < size }
     requires limit { length stream.now ≤ STREAM_LIMIT }
 {
     let mut decoder = Decoder::new(alloc);
     let mut bodies = Vec::new(alloc);
+    let mut damage = None;
     let mut rest = stream;
     'pieces: while !rest.is_empty() {
         let (piece, after) = rest.split_at(size.min(rest.len()));
-        decoder.feed(piece)?;
+        match decoder.feed(piece) {
+            Ok(()) => {}
+            Err(FeedFault::Damaged(told)) => damage = Some(told),
+            Err(FeedFault::NoMemory) => return Err(Fail::new("no memory")),
+        }
         take_all(&mut decoder, &mut bodies)?;
         rest = after;
     }
-    Ok((bodies, decoder.at_border()))
+    Ok(Outcome {
+        bodies,
+        border: decoder.at_border(),
+        damage,
+    })
 }
 
 /// Takes the contents of the frames that are whole.
@@ -37,47 +56,200 @@ fn take_all(decoder: &mut Decoder, bodies: &mut Vec<Vec<u8>>) -> Result<(), Fail
 fn cuts_in_any_pieces(rt: HostRuntime) -> Result<(), Fail> {
     let alloc = rt.alloc();
     let frames =
-        b"Content-Length: 2\r\n\r\n{}Content-Length: 0\r\n\r\nContent-Length: 00000011\r\n\r\nContent-Len";
+        b"Content-Length: 2\r\n\r\n{}cONTENT-lENGTH:0\r\nX-1:\r\n\r\nA: b: \t\r\nContent-Length:\t 00000011 \t\r\n\r\nContent-Len";
     let cut =
-        b"Content-Length: 2\r\n\r\n{}Content-Length: 0\r\n\r\nContent-Length: 00000011\r\n\r\nContent-Le";
+        b"Content-Length: 2\r\n\r\n{}cONTENT-lENGTH:0\r\nX-1:\r\n\r\nA: b: \t\r\nContent-Length:\t 00000011 \t\r\n\r\nContent-Le";
     for size in 1..=frames.len() {
-        let (bodies, border) = read(alloc, frames, size)?;
-        assert_eq!(rt; bodies.len(), 3, "{size}");
-        assert_eq!(rt; bodies[0].as_slice(), b"{}".as_slice(), "{size}");
-        assert!(rt; bodies[1].is_empty(), "{size}");
-        assert_eq!(rt; bodies[2].as_slice(), b"Content-Len".as_slice(), "{size}");
-        assert!(rt; border, "{size}");
-        let (bodies, border) = read(alloc, cut, size)?;
-        assert_eq!(rt; bodies.len(), 2, "{size}");
-        assert!(rt; !border, "{size}");
+        let whole = read(alloc, frames, size)?;
+        assert_eq!(rt; whole.bodies.len(), 3, "{size}");
+        assert_eq!(rt; whole.bodies[0].as_slice(), b"{}".as_slice(), "{size}");
+        assert!(rt; whole.bodies[1].is_empty(), "{size}");
+        assert_eq!(rt;
+            whole.bodies[2].as_slice(),
+            b"Content-Len".as_slice(),
+            "{size}"
+        );
+        assert!(rt; whole.border, "{size}");
+        assert_eq!(rt; whole.damage, None, "{size}");
+        let short = read(alloc, cut, size)?;
+        assert_eq!(rt; short.bodies.len(), 2, "{size}");
+        assert!(rt; !short.border, "{size}");
+        assert_eq!(rt; short.damage, None, "{size}");
     }
     Ok(())
 }
 
 #[test]
-fn tells_damage_at_once(rt: HostRuntime) -> Result<(), Fail> {
-    for (stream, sound) in [
-        (b"".as_slice(), true),
-        (b"Content-Length: ".as_slice(), true),
-        (b"content".as_slice(), false),
-        (b"Content-Length:1".as_slice(), false),
-        (b"Content-Length: \r".as_slice(), false),
-        (b"Content-Length: -".as_slice(), false),
-        (b"Content-Length: 1 ".as_slice(), false),
-        (b"Content-Length: 16777216\r\n\r\n".as_slice(), true),
-        (b"Content-Length: 16777217".as_slice(), false),
-        (b"Content-Length: 00000002".as_slice(), true),
-        (b"Content-Length: 000000020".as_slice(), false),
-        (b"Content-Length: 2\n".as_slice(), false),
-        (b"Content-Length: 2\r\r".as_slice(), false),
-        (b"Content-Length: 2\r\nX".as_slice(), false),
-        (b"Content-Length: 2\r\n\r\r".as_slice(), false),
-        (b"Content-Length: 2\r\n\r\n\r\nC".as_slice(), true),
-        (b"Content-Length: 2\r\n\r\n\r\nc".as_slice(), false),
+fn tells_where_and_why(rt: HostRuntime) -> Result<(), Fail> {
+    for (stream, place, kind) in [
+        (b"\n".as_slice(), 0, DamageKind::BadLine),
+        (b": 1\r\n".as_slice(), 0, DamageKind::BadLine),
+        (b"a b: 1\r\n".as_slice(), 1, DamageKind::BadLine),
+        (b"Content-Length : 1".as_slice(), 14, DamageKind::BadLine),
+        (b"A\r\n".as_slice(), 1, DamageKind::BadLine),
+        (b"A: \x7f".as_slice(), 3, DamageKind::BadLine),
+        (b"A: b\n".as_slice(), 4, DamageKind::BadLine),
+        (b"Content-Length: 2\n".as_slice(), 17, DamageKind::BadLine),
+        (b"Content-Length: 2\r\r".as_slice(), 18, DamageKind::BadLine),
+        (
+            b"Content-Length: 2\r\n\r\r".as_slice(),
+            20,
+            DamageKind::BadLine,
+        ),
+        (b"Content-Length: 2\xc3".as_slice(), 17, DamageKind::BadLine),
+        (
+            b"Content-Length: 2 \x00".as_slice(),
+            18,
+            DamageKind::BadLine,
+        ),
+        (
+            b"Content-Length: 2\r\nContent-Length: 2\r\n\r\n".as_slice(),
+            33,
+            DamageKind::TwoLengths,
+        ),
+        (
+            b"content-length: 1\r\nA:\r\nCONTENT-Length:".as_slice(),
+            37,
+            DamageKind::TwoLengths,
+        ),
+        (
+            b"Content-Length: \r\n".as_slice(),
+            16,
+            DamageKind::BadLength,
+        ),
+        (b"Content-Length:\r\n".as_slice(), 15, DamageKind::BadLength),
+        (b"Content-Length:-1".as_slice(), 15, DamageKind::BadLength),
+        (b"Content-Length: 1:".as_slice(), 17, DamageKind::BadLength),
+        (b"Content-Length: 1 2".as_slice(), 18, DamageKind::BadLength),
+        (
+            b"Content-Length: 1\t,".as_slice(),
+            18,
+            DamageKind::BadLength,
+        ),
+        (
+            b"Content-Length: 000000020".as_slice(),
+            24,
+            DamageKind::BadLength,
+        ),
+        (
+            b"Content-Length: 167772160".as_slice(),
+            24,
+            DamageKind::BadLength,
+        ),
+        (
+            b"Content-Length: 16777217".as_slice(),
+            23,
+            DamageKind::TooLong,
+        ),
+        (
+            b"Content-Length: 99999999".as_slice(),
+            23,
+            DamageKind::TooLong,
+        ),
+        (b"\r\n".as_slice(), 0, DamageKind::NoLength),
+        (b"A: b\r\n\r\n".as_slice(), 6, DamageKind::NoLength),
+        (
+            b"Content-Lengthy: 5\r\n\r\n".as_slice(),
+            20,
+            DamageKind::NoLength,
+        ),
+        (
+            b"Content-Length: 0\r\n\r\n\r\n".as_slice(),
+            21,
+            DamageKind::NoLength,
+        ),
+        (
+            b"X: 1\r\nContent-Length: 3\r\n\r\nabcContent-Length: x".as_slice(),
+            46,
+            DamageKind::BadLength,
+        ),
+    ] {
+        assert!(rt; stream.len() < 100);
+        for size in 1..=stream.len() {
+            let outcome = read(rt.alloc(), stream, size)?;
+            assert_eq!(rt;
+                outcome.damage,
+                Some(Damage { place, kind }),
+                "{stream:?} {size}"
+            );
+            assert!(rt; !outcome.border, "{stream:?} {size}");
+        }
+    }
+    Ok(())
+}
+
+#[test]
+fn tells_no_damage_before_its_place(rt: HostRuntime) -> Result<(), Fail> {
+    for stream in [
+        b"".as_slice(),
+        b"Content-Length: 16777216\r\n\r\n".as_slice(),
+        b"Content-Length: 1677721".as_slice(),
+        b"Content-Length: 00000002".as_slice(),
+        b"Content-Length:  \t 2 \t\r\n".as_slice(),
+        b"Content-Length: 2\r\nContent-Length".as_slice(),
+        b"Content-Length: 2\r\nContent-Length-2: 3\r\nContent-Lengt: 4\r\n\r".as_slice(),
+        b"0-9: ~ \t:\r\n".as_slice(),
+        b"Content-Length: 5\r\n\r\n{\"a".as_slice(),
+        b"Content-Length: 2\r\n\r\n\r\n-".as_slice(),
     ] {
         assert!(rt; stream.len() < 100);
         let mut decoder = Decoder::new(rt.alloc());
-        assert_eq!(rt; decoder.feed(stream).is_ok(), sound, "{stream:?}");
+        assert_eq!(rt; decoder.feed(stream), Ok(()), "{stream:?}");
+        assert_eq!(rt; decoder.at_border(), stream.is_empty(), "{stream:?}");
+    }
+    Ok(())
+}
+
+/// A stream of one header line of this many bytes, one of a length of 0, and this end.
+fn long_header(alloc: Global, line: usize, end: &[u8]) -> Result<Vec<u8>, Fail> {
+    let mut stream = Vec::from_slice(alloc, b"A:")?;
+    for _ in 4..line {
+        stream.push(b'x')?;
+    }
+    stream.extend_from_slice(b"\r\nContent-Length: 0\r\n")?;
+    stream.extend_from_slice(end)?;
+    Ok(stream)
+}
+
+#[test]
+fn holds_a_header_part_to_its_limit(rt: HostRuntime) -> Result<(), Fail> {
+    let alloc = rt.alloc();
+    // Two lines of 1,022 bytes, and the empty line: 1,024 bytes.
+    for (line, end, told) in [
+        (1_003, b"\r\n".as_slice(), None),
+        (1_003, b"\r\nContent-Length: 0\r\n\r\n".as_slice(), None),
+        (1_003, b"\rX".as_slice(), Some((1_023, DamageKind::BadLine))),
+        (1_004, b"\r".as_slice(), None),
+        (
+            1_004,
+            b"\r\n".as_slice(),
+            Some((1_024, DamageKind::HeaderTooLong)),
+        ),
+        (
+            1_004,
+            b"\rX".as_slice(),
+            Some((1_024, DamageKind::HeaderTooLong)),
+        ),
+        (1_005, b"".as_slice(), None),
+        (
+            1_005,
+            b"\n".as_slice(),
+            Some((1_024, DamageKind::HeaderTooLong)),
+        ),
+        (
+            1_003,
+            b"B: c".as_slice(),
+            Some((1_024, DamageKind::HeaderTooLong)),
+        ),
+    ] {
+        let stream = long_header(alloc, line, end)?;
+        assert!(rt; stream.len() < 2 * HEADER_LIMIT);
+        let damage = told.map(|(place, kind)| Damage { place, kind });
+        for size in [1, 2, 7, 1_024, 1_025, 2_048] {
+            assert!(rt; size > 0);
+            let outcome = read(alloc, &stream, size)?;
+            assert_eq!(rt; outcome.damage, damage, "{line} {end:?} {size}");
+        }
     }
     Ok(())
 }
@@ -87,8 +259,12 @@ fn gives_the_frames_before_a_damage(rt: HostRuntime) -> Result<(), Fail> {
     let mut decoder = Decoder::new(rt.alloc());
     assert_eq!(rt; decoder.given_end(), 0);
     let stream = b"Content-Length: 1\r\n\r\naContent-Length: 0\r\n\r\nContent-Length: 1\n";
-    assert_eq!(rt; decoder.feed(stream), Err(FeedFault::Damaged));
-    assert_eq!(rt; decoder.feed(b"Content-Length: 1"), Err(FeedFault::Damaged));
+    let damaged = Err(FeedFault::Damaged(Damage {
+        place: 60,
+        kind: DamageKind::BadLine,
+    }));
+    assert_eq!(rt; decoder.feed(stream), damaged);
+    assert_eq!(rt; decoder.feed(b"Content-Length: 1"), damaged);
     let mut bodies = Vec::new(rt.alloc());
     take_all(&mut decoder, &mut bodies)?;
     assert_eq!(rt; bodies.len(), 2);
@@ -96,7 +272,7 @@ fn gives_the_frames_before_a_damage(rt: HostRuntime) -> Result<(), Fail> {
     assert!(rt; bodies[1].is_empty());
     assert_eq!(rt; decoder.given_end(), 43);
     assert!(rt; !decoder.at_border());
-    assert_eq!(rt; decoder.feed(b""), Err(FeedFault::Damaged));
+    assert_eq!(rt; decoder.feed(b""), damaged);
     Ok(())
 }
 
@@ -115,9 +291,9 @@ fn reads_what_it_writes(rt: HostRuntime) -> Result<(), Fail> {
     let mut stream = Vec::new(alloc);
     frame_into(&mut stream, &largest)?;
     assert_eq!(rt; stream.len(), CONTENT_LIMIT + 28);
-    let (bodies, border) = read(alloc, &stream, 65_536)?;
-    assert!(rt; border);
-    assert_eq!(rt; bodies.len(), 1);
-    assert!(rt; bodies[0] == largest);
+    let outcome = read(alloc, &stream, 65_536)?;
+    assert!(rt; outcome.border);
+    assert_eq!(rt; outcome.bodies.len(), 1);
+    assert!(rt; outcome.bodies[0] == largest);
     Ok(())
 }

@@ -2,9 +2,14 @@ ghost use Rattle.std.specs.Prelude.{◌≡◌, ℕ, ◌+◌, ◌≤◌, List, �
 ghost use Rattle.rpc_frame.specs.Frames.{BeginsWith, IsFrame, written_frame};
 
 use crate::CONTENT_LIMIT;
-use crate::reading::{LENGTH_FIELD, LINE_ENDS};
 use itoa::Buffer;
 use ob_text::NoMemory;
+
+/// The one header line of a frame, up to its number.
+const LENGTH_FIELD: &[u8; 16] = b"Content-Length: ";
+
+/// The end of that line, and the empty line that closes the header part.
+const LINE_ENDS: &[u8; 4] = b"\r\n\r\n";
 
 /// Writes a content at the end, as one frame.
 pub fn frame_into(out: &mut Vec<u8>, body: &[u8]) -> Result<(), NoMemory>

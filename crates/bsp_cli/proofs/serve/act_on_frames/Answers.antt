@@ -1,7 +1,7 @@
 use Rattle.std.proofs.Common.{◌∙◌, ◌∷◌}
 use Rattle.session_law.specs.Order.{take}
 use Rattle.session_core.specs.Standing.{onto}
-use Rattle.bsp_cli.proofs.ProgressLaws.{progress_acts, stopped_at, stopped_here, sound_behind, broken_behind}
+use Rattle.bsp_cli.proofs.ProgressLaws.{progress_acts, stopped_at, stopped_here, sound_behind, damage_left}
 use Rattle.bsp_cli.proofs.serve.act_on_frames.Goals as goal
 
 pub returns-in-Err-clause-stopped : goal.returns-in-Err-clause-stopped
@@ -20,10 +20,10 @@ returns-in-Ok-Some-act-clause-sound g c = λ sound.
     let begins = rw c.in-Ok-Some.field-0-is at c.in-Ok-Some.ensures.some in
     sound_behind c.frames.decoder.bytes c.in-Ok-Some.body.items c.next_body.new.self.bytes begins (c.frames.invariant.sound sound)
 
-pub returns-in-Ok-Some-act-clause-broken : goal.returns-in-Ok-Some-act-clause-broken
-returns-in-Ok-Some-act-clause-broken g c = λ broken.
+pub returns-in-Ok-Some-act-clause-damage : goal.returns-in-Ok-Some-act-clause-damage
+returns-in-Ok-Some-act-clause-damage g c = λ damage has.
     let begins = rw c.in-Ok-Some.field-0-is at c.in-Ok-Some.ensures.some in
-    broken_behind c.frames.decoder.bytes c.in-Ok-Some.body.items c.next_body.new.self.bytes begins (c.frames.invariant.broken broken)
+    damage_left c.frames.decoder c.next_body.new.self c.in-Ok-Some.body.items begins c.in-Ok-Some.ensures.count damage (c.frames.invariant.damage damage has)
 
 pub returns-in-Err-act-clause-stopped : goal.returns-in-Err-act-clause-stopped
 returns-in-Err-act-clause-stopped g c = λ left0 left given0 so.
@@ -47,7 +47,7 @@ frames-preserved g c =
           progress_acts c.frames.core c.act.new.core c.frames.decoder c.next_body.new.self c.as_slice.result.now left0 left given0 _ _ begins c.in-Ok-Some.ensures.count
           (before.progress left0 left given0 so) acts;
       sound = λ sound. sound_behind c.frames.decoder.bytes c.as_slice.result.now c.next_body.new.self.bytes begins (before.sound sound);
-      broken = λ broken. broken_behind c.frames.decoder.bytes c.as_slice.result.now c.next_body.new.self.bytes begins (before.broken broken);
+      damage = λ damage has. damage_left c.frames.decoder c.next_body.new.self c.as_slice.result.now begins c.in-Ok-Some.ensures.count damage (before.damage damage has);
       count = c.in-Ok-Some.ensures.count ∙ before.count;
       same = c.in-Ok-None-act.ensures.same (λ h. cc) ∙ before.same;
     }

@@ -1,5 +1,7 @@
 use Rattle.std.proofs.Common.{◌≡◌, ℕ, List, length, Option}
-use Rattle.rpc_frame.specs.Frames.{IsSound, IsBroken}
+use Rattle.rpc_frame.specs.Frames.{IsSound}
+use Rattle.rpc_frame.specs.declared.damage.Damage.{Damage}
+use Rattle.rpc_frame.specs.Damages.{HasDamage}
 use Rattle.session_law.specs.Order.{Event}
 use Rattle.session_core.specs.Standing.{StandsFor}
 use Rattle.bsp_cli.specs.Progress.{IsReady, Progress, fed}
@@ -13,7 +15,7 @@ invariant-frames g l =
       progress : (left0 left given0 : Option (List ℕ)) → Progress l.initial.core l.initial.decoder left0 left given0 (g.K.Sink.given l.initial.output)
           → Progress l.core l.decoder left0 left given0 (g.K.Sink.given l.output);
       sound : IsSound l.initial.decoder.bytes → IsSound l.decoder.bytes;
-      broken : IsBroken l.initial.decoder.bytes → IsBroken l.decoder.bytes;
+      damage : (damage : Damage) → HasDamage l.initial.decoder damage → HasDamage l.decoder damage;
       count : fed l.decoder ≡ fed l.initial.decoder;
       same : g.K.Sink.faults l.output ≡ g.K.Sink.faults l.initial.output;
     }

@@ -7,13 +7,13 @@ returns-in-Ok-Some-clause-progress g c = λ left0 given0 so.
     let feeds = (rw c.in-Ok-Piece.field-0-is at c.in-Ok-Piece.ensures.piece) _ refl in
     c.in-Ok-Some.ensures.progress left0 _ given0 (progress_feeds c.args.core.now c.args.decoder.now c.fetch.new.decoder left0 _ _ given0 _ so feeds)
 
-pub returns-then-sound-clause-progress : goal.returns-then-sound-clause-progress
-returns-then-sound-clause-progress g c = λ left0 given0 so.
+pub returns-in-None-clause-progress : goal.returns-in-None-clause-progress
+returns-in-None-clause-progress g c = λ left0 given0 so.
     let feeds = (rw c.in-Ok-Piece.field-0-is at c.in-Ok-Piece.ensures.piece) _ refl in
     c.in-Ok-None.ensures.progress left0 _ given0 (progress_feeds c.args.core.now c.args.decoder.now c.fetch.new.decoder left0 _ _ given0 _ so feeds)
 
-pub returns-else-sound-clause-progress : goal.returns-else-sound-clause-progress
-returns-else-sound-clause-progress g c = λ left0 given0 so.
+pub returns-in-Some-clause-progress : goal.returns-in-Some-clause-progress
+returns-in-Some-clause-progress g c = λ left0 given0 so.
     let feeds = (rw c.in-Ok-Piece.field-0-is at c.in-Ok-Piece.ensures.piece) _ refl in
     c.in-Ok-None.ensures.progress left0 _ given0 (progress_feeds c.args.core.now c.args.decoder.now c.fetch.new.decoder left0 _ _ given0 _ so feeds)
 

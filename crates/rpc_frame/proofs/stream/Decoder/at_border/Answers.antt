@@ -10,6 +10,9 @@ returns c =
     let d = c.self.inside in
     let waiting = drop d.start d.bytes.items in
     let same = ap (λ w. w.bytes) c.self.view_is in (
-      λ yes. subst IsBorder same (scanned_border d.marks.items waiting (subst (λ r. Scanned r d.marks.items waiting) (c.is_start.ensures.0 yes) c.self.invariant.scanned)),
-      λ border. true_unless c.is_start.result (λ no. scanned_no_border d.reading d.marks.items waiting (λ e. no (c.is_start.ensures.1 e)) c.self.invariant.scanned (subst IsBorder (sym same) border)),
+      λ yes.
+          let start = c.is_start.ensures.start yes in
+          subst IsBorder same (scanned_border d.given_end start.0 d.marks.items waiting (subst (λ r. Scanned d.given_end r d.marks.items waiting) start.1 c.self.invariant.scanned)),
+      λ border. true_unless c.is_start.result
+          (λ other. scanned_no_border d.given_end d.reading d.marks.items waiting (λ head e. other (c.is_start.ensures.other head e)) c.self.invariant.scanned (subst IsBorder (sym same) border)),
     )

@@ -11,14 +11,14 @@ use Rattle.rpc_frame.proofs.stream.Decoder.next_body.Goals.{In-Some}
 pub returns-in-None-clause-none : goal.returns-in-None-clause-none
 returns-in-None-clause-none c =
     let d = c.self.inside in
-    subst HasNoFrame (ap (λ w. w.bytes) c.self.view_is) (none_left d.reading d.marks.items (drop d.start d.bytes.items) c.in-None.ensures.item.3 c.self.invariant.scanned)
+    subst HasNoFrame (ap (λ w. w.bytes) c.self.view_is) (none_left d.given_end d.reading d.marks.items (drop d.start d.bytes.items) c.in-None.ensures.item.3 c.self.invariant.scanned)
 
 -- the frame that is given
-given : (c : In-Some) → NextFrame c.self.inside.reading c.in-Some.mark.now (drop 1 c.self.inside.marks.items) c.self.inside.start c.self.inside.bytes.items
+given : (c : In-Some) → NextFrame c.self.inside.given_end c.self.inside.reading c.in-Some.mark.now (drop 1 c.self.inside.marks.items) c.self.inside.start c.self.inside.bytes.items
 given c =
     let d = c.self.inside in
-    next_frame d.reading c.in-Some.mark.now (drop 1 d.marks.items) d.start d.bytes.items c.self.invariant.start
-    (first_mark d.reading c.in-Some.mark.now d.marks.items (drop d.start d.bytes.items) c.in-Some.ensures.item.3.0 c.in-Some.ensures.item.1 c.self.invariant.scanned)
+    next_frame d.given_end d.reading c.in-Some.mark.now (drop 1 d.marks.items) d.start d.bytes.items c.self.invariant.start
+    (first_mark d.given_end d.reading c.in-Some.mark.now d.marks.items (drop d.start d.bytes.items) c.in-Some.ensures.item.3.0 c.in-Some.ensures.item.1 c.self.invariant.scanned)
 
 pub split_at-requires-3 : goal.split_at-requires-3
 split_at-requires-3 c =
@@ -34,7 +34,7 @@ invariant_of-self c =
       start = f.fits;
       bound = omega (arith, f.fits, c.self.invariant.bound, length-drop d.start d.bytes.items, length-drop (d.start + n) d.bytes.items);
       within = c.self.invariant.within;
-      scanned = subst (λ (ms : List Mark). Scanned d.reading ms (drop (d.start + n) d.bytes.items)) (sym c.pop_front.ensures.rest) f.others;
+      scanned = subst (λ (ms : List Mark). Scanned (d.given_end + n) d.reading ms (drop (d.start + n) d.bytes.items)) (sym c.pop_front.ensures.rest) f.others;
     }
 
 pub returns-clause-some : goal.returns-clause-some
@@ -54,3 +54,8 @@ returns-clause-fewer c =
     let d = c.self.inside in
     let f = given (goal.at.returns-clause-fewer c).In-Some in
     omega (arith, begins_fewer (drop d.start d.bytes.items) _ _ f.begins, ap (λ w. length w.bytes) c.self.view_is)
+
+pub returns-clause-limit : goal.returns-clause-limit
+returns-clause-limit c =
+    let f = given (goal.at.returns-clause-limit c).In-Some in
+    omega (arith, f.limit, ap length c.in_ok-body.ensures.items, c.split_at-3.ensures.front_len)
