@@ -52,7 +52,8 @@ class Client:
         while (answer := next_message(self.server.stdout)) is not None:
             if answer.get("id") == self.last_id and "method" not in answer:
                 kind = "error" if "error" in answer else "result"
-                show("server", f"{kind} of request {self.last_id}", answer[kind])
+                null = ": null" if answer[kind] is None else ""
+                show("server", f"{kind} of request {self.last_id}{null}", answer[kind])
                 return answer
             show("server", answer.get("method", "response"), answer.get("params"))
         sys.exit("the server ended without an answer")

@@ -5,7 +5,7 @@ use Rattle.rpc_frame.specs.Frames.{HasNoFrame, FramesTo, Frames, Waiting}
 use Rattle.rpc_frame.specs.declared.damage.Damage.{Damage}
 use Rattle.rpc_frame.specs.Damages.{DamageAt}
 use Rattle.rpc_frame.proofs.DamageLaws.{damage_behind}
-use Rattle.rpc_frame.proofs.FrameLaws.{nil_no_frame, broken_rest, broken_not_sound}
+use Rattle.rpc_frame.proofs.FrameLaws.{nil_no_frame, broken_rest, broken_not_sound, sound_front}
 use Rattle.session_law.specs.declared.InputEnd.{InputEnd}
 use Rattle.session_law.specs.declared.InputEnd.TheVariants as input_end
 use Rattle.session_law.specs.Order.{ends, takes_of}
@@ -214,7 +214,7 @@ is_damage : (damage : Damage) (stream : Waiting) (told : Change) (read : List �
 is_damage damage stream told read bodies frames count (inl has) =
     inl (read_damage read bodies stream.bytes stream.given_end has.place damage frames count has.counted has.at)
 is_damage damage stream told read bodies frames count (inr inside) =
-    inr (record { kind = inside.kind; place = inside.place ∙ sym count; inside = inside.inside; no_more = has_more stream told read count inside.out })
+    inr (record { sound = sound_front read bodies stream.bytes frames inside.sound; kind = inside.kind; place = inside.place ∙ sym count; inside = inside.inside; no_more = has_more stream told read count inside.out })
 
 pub ends_for : (ending : Ending) (stream : Waiting) (told : Change) (read : List ℕ) (bodies : List (List ℕ)) → FramesTo read bodies stream.bytes → length read ≡ fed stream
     → EndsBy ending stream told → EndsFor (Some (how_of ending)) (damage_of ending) told read stream.bytes

@@ -75,6 +75,7 @@ IsOut stream left = IsDry left ⊎ (fed stream ≡ STREAM_LIMIT)
 
 -- the bytes that wait have no more, and end inside a frame
 pub record EndsInside (stream : Waiting) (left : Option (List ℕ)) (damage : Damage) : Type 0 where
+  pub sound : IsSound stream.bytes
   pub kind : damage.kind ≡ Truncated
   pub place : damage.place ≡ fed stream
   pub inside : stream.bytes ≢ []

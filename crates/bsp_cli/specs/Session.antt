@@ -3,7 +3,7 @@
 use Rattle.std.specs.Prelude.{◌≡◌, ◌≢◌, ◌⊎◌, ◌++◌, ◌≤◌, ◌<◌, ℕ, List, [], length, take, flat_map, Option, Some, None}
 use Rattle.bsp_edge.specs.Faults.{Rose}
 use Rattle.bsp_edge.specs.Streams.{Takes, Gives, IsDry}
-use Rattle.rpc_frame.specs.Frames.{Frames, IsBroken}
+use Rattle.rpc_frame.specs.Frames.{Frames, IsBroken, IsSound}
 use Rattle.rpc_frame.specs.declared.TheConstants.{STREAM_LIMIT}
 use Rattle.rpc_frame.specs.declared.damage.Damage.{Damage}
 use Rattle.rpc_frame.specs.declared.damage.DamageKind.TheVariants.{Truncated}
@@ -34,8 +34,9 @@ pub record IsCut (bytes : List ℕ) : Type 0 where
 abbrev pub HasNoMore : Change → List ℕ → Type 0
 HasNoMore input read = IsDry input.new ⊎ (length read ≡ STREAM_LIMIT)
 
--- the bytes have no more and end inside a frame
+-- the bytes have no more and end inside a frame, which nothing before is wrong with
 pub record IsTruncated (input : Change) (read rest : List ℕ) (damage : Damage) : Type 0 where
+  pub sound : IsSound read
   pub kind : damage.kind ≡ Truncated
   pub place : damage.place ≡ length read
   pub inside : rest ≢ []

@@ -243,6 +243,7 @@ fn fetch<S: Source>(
 /// How an input of `total` bytes ends that has no more.
 fn end_of(decoder: &Decoder, total: u64) -> Ending
     requires drained { HasNoFrame decoder.now.bytes }
+    requires sound { IsSound decoder.now.bytes }
     requires total { total ≡ fed decoder.now }
     ensures { (input : Change) → IsOut decoder.now input.new → EndsBy result decoder.now input }
 {

@@ -8,6 +8,7 @@ returns-then-at_border c = λ input out. (border_empty c.args.decoder.now.bytes 
 pub returns-else-at_border : goal.returns-else-at_border
 returns-else-at_border c = λ input out.
     inr (record {
+      sound = c.requires.sound;
       kind = refl;
       place = c.requires.total;
       inside = λ none.
