@@ -1,4 +1,8 @@
+pub mod ChangeLaws
+pub mod DocumentLaws
 pub mod FaultLaws
+pub mod HandLaws
+pub mod KnownLaws
 pub mod PieceLaws
 pub mod PollLaws
 pub mod Searches

@@ -1,9 +1,12 @@
 pub mod Calls
 pub mod Course
+pub mod Documents
 pub mod Faults
+pub mod Handing
 pub mod Orders
 pub mod Pieces
 pub mod Reading
 pub mod Stores
 pub mod Streams
+pub mod Trees
 pub mod Writing

@@ -1,6 +1,7 @@
 -- What one call of a source does, by its answer.
 use Rattle.std.specs.Prelude.{◌≡◌, ℕ, ◌<◌, ◌≤◌, List, length, take, Option, Some, None, IsSomeAnd}
 use Rattle.std.specs.Option.{option_map}
+use Rattle.std.specs.Io.KnownBytes.{Consumes, IsAtEnd}
 use Rattle.bsp_edge.specs.declared.reading.Got.{Got}
 use Rattle.bsp_edge.specs.declared.reading.Got.TheVariants.{Bytes, End, Quiet, Failed}
 use Rattle.bsp_edge.specs.Course.{Course, moved, UsesPoll}
@@ -50,3 +51,10 @@ TookInto into (Bytes count) = (0 < count) × (count ≤ length into)
 TookInto into End = Unit {0}
 TookInto into Quiet = ⊥
 TookInto into Failed = Unit {0}
+
+-- what becomes of the bytes that are known to be left
+abbrev pub TookKnown : Option (List ℕ) → Option (List ℕ) → List ℕ → Got → Type 0
+TookKnown old new into (Bytes count) = Consumes old new (take count into)
+TookKnown old new into End = IsAtEnd old
+TookKnown old new into Quiet = Unit {0}
+TookKnown old new into Failed = Unit {0}

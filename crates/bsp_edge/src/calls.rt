@@ -39,6 +39,21 @@ impl FailingCalls {
         }
     }
 
+    /// The ordinal of the next call.
+    pub(crate) fn next_call(&self) -> u64
+        ensures { result ≡ counted self.now.made }
+    {
+        self.made.saturating_add(1)
+    }
+
+    /// Is the next call one of those that fail?
+    pub(crate) fn fails_next(&self) -> bool
+        ensures fails { OnTrue result (FailsNext self.now) }
+        ensures passes { OnFalse result (¬ FailsNext self.now) }
+    {
+        self.failing.binary_search(&self.next_call()).is_ok()
+    }
+
     /// Counts a call. Is it one of those that fail? Then its fault is counted too.
     pub(crate) fn next_fails(&mut self) -> bool
         ensures fails { OnTrue result (FailsNext self.old) }
@@ -46,12 +61,29 @@ impl FailingCalls {
         ensures counted { self.new ≡ (if result then failed_call self.old else passed_call self.old) }
         ensures rose { OnTrue result (Rose self.old.faults self.new.faults) }
     {
-        self.made = self.made.saturating_add(1);
-        let fails = self.failing.binary_search(&self.made).is_ok();
+        let fails = self.fails_next();
         if fails {
-            self.count_fault();
+            self.fail();
+        } else {
+            self.pass();
         }
         fails
+    }
+
+    /// Counts a call that passes.
+    pub(crate) fn pass(&mut self)
+        ensures { self.new ≡ passed_call self.old }
+    {
+        self.made = self.next_call();
+    }
+
+    /// Counts a call that fails, and its fault.
+    pub(crate) fn fail(&mut self)
+        ensures counted { self.new ≡ failed_call self.old }
+        ensures rose { Rose self.old.faults self.new.faults }
+    {
+        self.pass();
+        self.count_fault();
     }
 
     /// Counts a fault of a call that was counted already.

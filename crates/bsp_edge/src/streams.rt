@@ -1,7 +1,7 @@
 ghost use Rattle.std.specs.Prelude.{◌≡◌, ◌≢◌, ◌<◌, None, length};
 ghost use Rattle.bsp_edge.specs.Reading.{ReadFaults, ReadLeaves, ReadMoves};
 ghost use Rattle.bsp_edge.specs.Writing.{WriteFaults, WriteGives, TookWithin};
-ghost use Rattle.bsp_edge.specs.Reading.{TookInto};
+ghost use Rattle.bsp_edge.specs.Reading.{TookInto, TookKnown};
 
 use crate::reading::{Got, Source};
 use crate::writing::{Put, Sink};
@@ -47,8 +47,10 @@ impl<R: Input> Source for StdinSource<R> {
 }
 
 /// Reads a piece, again where a signal interrupts the call.
-fn read_piece<I: Read>(input: &mut I, into: &mut [u8]) -> Got
-    ensures { TookInto into.new result }
+pub(crate) fn read_piece<I: Read>(input: &mut I, into: &mut [u8]) -> Got
+    requires { 0 < length into.old }
+    ensures took { TookInto into.new result }
+    ensures known { TookKnown (I.remaining input.old) (I.remaining input.new) into.new result }
 {
     for _ in 0..TRIES {
         match input.read(into) {

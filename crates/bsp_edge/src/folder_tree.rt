@@ -1,0 +1,110 @@
+ghost use Rattle.std.specs.Prelude.{◌≡◌, ◌<◌, None, length, vec_len, IfOk};
+ghost use Rattle.std.specs.List.{All};
+ghost use Rattle.bsp_edge.specs.Documents.{IsReadable};
+ghost use Rattle.bsp_edge.specs.Handing.{HandFaults, HandsOut, paths_of};
+
+use crate::document::read_document;
+use crate::handing::{Tree, TreeFault};
+use ob_text::{Held, Items, Path, Snapshot, Text};
+use std::alloc::{AllocError, Global};
+use std::fs::File;
+use std::io::ErrorKind;
+use std::path::{self, PathBuf};
+use std::rt::Files;
+use std::str;
+
+/// How many bytes are read at once.
+const PIECE: usize = 65_536;
+
+/// The files below a folder. It tells nothing of their contents. Each file is read anew each time that
+/// it is asked for. A fault of reading, as at a folder in a file's place, fails the call.
+#[derive(Drop)]
+pub struct FolderTree<R> {
+    runtime: R,
+    alloc: Global,
+    folder: Text,
+    faults: u64,
+}
+
+impl<R: Files> FolderTree<R> {
+    /// The tree of a folder, which is the current one where `folder` is empty. A path that begins with
+    /// `/` is taken as it is. Where the folder isn't there, none of its files is.
+    pub fn new(runtime: R, alloc: Global, folder: Text) -> FolderTree<R>
+        ensures { ⟦<FolderTree<R> as Tree>⟧.faults result ≡ 0 }
+    {
+        FolderTree {
+            runtime,
+            alloc,
+            folder,
+            faults: 0,
+        }
+    }
+
+    fn read_files(&self, paths: &[Path], buffer: &mut [u8]) -> Result<Snapshot, TreeFault>
+        requires { 0 < length buffer.old }
+        ensures paths { IfOk result (λ snapshot. paths_of snapshot.entries ≡ paths.now) }
+        ensures texts { IfOk result (λ snapshot. All (λ entry. IsReadable entry.1) snapshot.entries) }
+    {
+        let mut entries = Vec::new(self.alloc);
+        for path in paths {
+            let held = self.read_file(path, buffer)?;
+            entries.push((path.copy(self.alloc)?, held))?;
+        }
+        Ok(Snapshot {
+            entries: Items::from_vec(entries),
+        })
+    }
+
+    /// No entry, or a parent that is no folder, is Absent.
+    fn read_file(&self, path: &Path, buffer: &mut [u8]) -> Result<Held, TreeFault>
+        requires { 0 < length buffer.old }
+        ensures { IfOk result IsReadable }
+    {
+        let name = name_of(self.alloc, self.folder.as_slice(), path.as_slice())?;
+        match File::open(&self.runtime, name) {
+            Ok(mut file) => read_document(self.alloc, &mut file, buffer),
+            Err(error) => match error.kind() {
+                ErrorKind::NotFound | ErrorKind::NotADirectory => Ok(Held::Absent),
+                _ => Err(TreeFault::Failed),
+            },
+        }
+    }
+}
+
+impl<R: Files> Tree for FolderTree<R> {
+    ghost handed = { λ _. None };
+
+    ghost faults = { λ tree. tree.faults };
+
+    fn read_all(&mut self, paths: &[Path]) -> Result<Snapshot, TreeFault> {
+        let mut buffer = zeros(self.alloc, PIECE)?;
+        match self.read_files(paths, buffer.as_mut_slice()) {
+            Ok(snapshot) => Ok(snapshot),
+            Err(TreeFault::Failed) => {
+                self.faults = self.faults.saturating_add(1);
+                Err(TreeFault::Failed)
+            }
+            Err(TreeFault::NoMemory) => Err(TreeFault::NoMemory),
+        }
+    }
+}
+
+/// The name of a file below a folder. Only a name of UTF-8 can be read.
+fn name_of(alloc: Global, folder: &[u8], file: &[u8]) -> Result<PathBuf, TreeFault> {
+    let Ok(folder) = str::from_utf8(folder) else {
+        return Err(TreeFault::Failed);
+    };
+    let Ok(file) = str::from_utf8(file) else {
+        return Err(TreeFault::Failed);
+    };
+    Ok(path::Path::new(folder).join(alloc, file)?)
+}
+
+fn zeros(alloc: Global, count: usize) -> Result<Vec<u8>, AllocError>
+    ensures { IfOk result (λ bytes. vec_len bytes ≡ count) }
+{
+    vec![in alloc; 0; count]
+}
+
+#[cfg(test)]
+mod tests;
