@@ -1,0 +1,4 @@
+pub mod ExpressionMemory
+pub mod FirstTokens
+pub mod StatementMemory
+pub mod TypeMemory

@@ -1,0 +1,202 @@
+use crate::leaf::{Ident, IntegerLiteral, Member, StringLiteral};
+use ob_text::Span;
+
+/// `expr = simple [relator simple]` (The Programming Language Oberon-07, section 8.2).
+#[cycle(expression)]
+#[derive(Drop)]
+pub struct Expr {
+    pub left: Simple,
+    pub relation: Option<Box<Relation>>,
+}
+
+/// The operator and the right side of a relation.
+#[cycle(expression)]
+#[derive(Drop)]
+pub struct Relation {
+    pub operator: Relator,
+    pub span: Span,
+    pub right: Simple,
+}
+
+/// `"=" | "#" | "<" | "<=" | ">" | ">=" | IN | IS`.
+#[derive(Clone, Copy, Debug, PartialEq, Eq)]
+pub enum Relator {
+    Equal,
+    Unequal,
+    Less,
+    LessEqual,
+    Greater,
+    GreaterEqual,
+    In,
+    Is,
+}
+
+/// `simple = ["+" | "-"] term {addoperator term}`.
+#[cycle(expression)]
+#[derive(Drop)]
+pub struct Simple {
+    pub sign: Option<Signed>,
+    pub first: Term,
+    pub rest: Vec<Addend>,
+}
+
+/// A sign and its place.
+#[derive(Clone, Copy, Debug)]
+pub struct Signed {
+    pub sign: Sign,
+    pub span: Span,
+}
+
+/// `"+" | "-"` before a term.
+#[derive(Clone, Copy, Debug, PartialEq, Eq)]
+pub enum Sign {
+    Plus,
+    Minus,
+}
+
+/// `addoperator term`.
+#[cycle(expression)]
+#[derive(Drop)]
+pub struct Addend {
+    pub operator: AddOperator,
+    pub span: Span,
+    pub term: Term,
+}
+
+/// `"+" | "-" | OR` between terms.
+#[derive(Clone, Copy, Debug, PartialEq, Eq)]
+pub enum AddOperator {
+    Add,
+    Subtract,
+    Or,
+}
+
+/// `term = factor {muloperator factor}`.
+#[cycle(expression)]
+#[derive(Drop)]
+pub struct Term {
+    pub first: Factor,
+    pub rest: Vec<Multiplier>,
+}
+
+/// `muloperator factor`.
+#[cycle(expression)]
+#[derive(Drop)]
+pub struct Multiplier {
+    pub operator: MulOperator,
+    pub span: Span,
+    pub factor: Factor,
+}
+
+/// `"*" | "/" | DIV | MOD | "&"`.
+#[derive(Clone, Copy, Debug, PartialEq, Eq)]
+pub enum MulOperator {
+    Multiply,
+    Divide,
+    Div,
+    Mod,
+    And,
+}
+
+/// `factor = integer | string | TRUE | FALSE | set | designator | "(" expr ")" | "~" factor`.
+#[cycle(expression)]
+#[derive(Drop)]
+pub enum Factor {
+    Integer(IntegerLiteral),
+    Str(StringLiteral),
+    True(Span),
+    False(Span),
+    Set(Set),
+    Designator(Designator),
+    Group {
+        opening: Span,
+        inner: Box<Expr>,
+        closing: Span,
+    },
+    Not {
+        tilde: Span,
+        factor: Box<Factor>,
+    },
+}
+
+/// `set = "{" [element {"," element}] "}"`.
+#[cycle(expression)]
+#[derive(Drop)]
+pub struct Set {
+    pub opening: Span,
+    pub elements: Option<Box<Elements>>,
+    pub closing: Span,
+}
+
+/// `element {"," element}`.
+#[cycle(expression)]
+#[derive(Drop)]
+pub struct Elements {
+    pub first: Element,
+    pub rest: Vec<NextElement>,
+}
+
+/// `"," element`.
+#[cycle(expression)]
+#[derive(Drop)]
+pub struct NextElement {
+    pub comma: Span,
+    pub element: Element,
+}
+
+/// `element = expr [".." expr]`.
+#[cycle(expression)]
+#[derive(Drop)]
+pub struct Element {
+    pub first: Expr,
+    pub upper: Option<Upper>,
+}
+
+/// `".." expr`.
+#[cycle(expression)]
+#[derive(Drop)]
+pub struct Upper {
+    pub dots: Span,
+    pub last: Expr,
+}
+
+/// `designator = ident {selector}` (section 8.1).
+#[cycle(expression)]
+#[derive(Drop)]
+pub struct Designator {
+    pub name: Ident,
+    pub selectors: Vec<Selector>,
+}
+
+/// `"." ident | "[" exprs "]" | "(" [exprs] ")"`. A call and a type guard have one form.
+#[cycle(expression)]
+#[derive(Drop)]
+pub enum Selector {
+    Field(Member),
+    Index {
+        opening: Span,
+        places: Box<Exprs>,
+        closing: Span,
+    },
+    Call {
+        opening: Span,
+        arguments: Option<Box<Exprs>>,
+        closing: Span,
+    },
+}
+
+/// `exprs = expr {"," expr}`.
+#[cycle(expression)]
+#[derive(Drop)]
+pub struct Exprs {
+    pub first: Expr,
+    pub rest: Vec<NextExpr>,
+}
+
+/// `"," expr`.
+#[cycle(expression)]
+#[derive(Drop)]
+pub struct NextExpr {
+    pub comma: Span,
+    pub expr: Expr,
+}
