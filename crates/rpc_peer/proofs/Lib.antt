@@ -1,1 +1,4 @@
 pub mod Bodies
+pub mod Closing
+pub mod ReadAgain
+pub mod Taken

@@ -1,2 +1,4 @@
 pub mod Said
 pub mod Meaning
+pub mod Returning
+pub mod OpenIds

@@ -80,12 +80,16 @@ abbrev pub IsId : Id → Type 0
 IsId (ids.Number n) = FitsSigned w64 n
 IsId (ids.Text t) = IsUtf8 t × (length t ≤ id_limit)
 
--- a request has an id
+abbrev pub IsAnyId : Option Id → Type 0
+IsAnyId None = Unit {0}
+IsAnyId (Some id) = IsId id
+
+-- the id of a message is one, where it has an id
 abbrev pub HasId : Said → Type 0
 HasId (request id method params) = IsId id
 HasId (notification method params) = Unit {0}
-HasId (result id value) = Unit {0}
-HasId (failure id code message) = Unit {0}
+HasId (result id value) = IsAnyId id
+HasId (failure id code message) = IsAnyId id
 
 abbrev pub HasText : Id → Type 0
 HasText (ids.Number n) = Unit {0}

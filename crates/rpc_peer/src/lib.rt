@@ -1,14 +1,17 @@
 //! The messages of JSON-RPC 2.0: what a body means, and how a message is written as a body.
 #![tactic(auto)]
 
+mod members;
 mod message;
+mod open_ids;
 mod reading;
 mod refusal;
 mod writing;
 
-pub use message::{ErrorObject, Id, Message};
+pub use message::{ErrorObject, ID_LIMIT, Id, Message};
+pub use open_ids::{BeginFault, OpenIds};
 pub use reading::read_message;
-pub use refusal::{INVALID_REQUEST, Refusal};
+pub use refusal::{INVALID_REQUEST, PARSE_ERROR, Refusal};
 pub use writing::write_message;
 
 #[cfg(test)]

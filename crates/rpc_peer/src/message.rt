@@ -1,11 +1,29 @@
-use ob_text::{Name, Text};
+use ob_text::{Name, NoMemory, Text};
 use serde_json::Value;
+use std::alloc::Global;
+
+/// The most bytes of an id that is a text.
+pub const ID_LIMIT: usize = 1_024;
 
 /// The id of a request, which its response repeats (JSON-RPC 2.0, section 4).
 #[derive(Debug, Drop, PartialEq, Eq, Hash)]
 pub enum Id {
     Number(i64),
     Text(Name),
+}
+
+impl Id {
+    ghost use Rattle.std.specs.Prelude.{◌≡◌, IfOk};
+
+    /// An equal id of its own.
+    pub fn copy(&self, alloc: Global) -> Result<Id, NoMemory>
+        ensures { IfOk result (λ id. id ≡ self.now) }
+    {
+        match self {
+            Id::Number(number) => Ok(Id::Number(*number)),
+            Id::Text(name) => Ok(Id::Text(name.copy(alloc)?)),
+        }
+    }
 }
 
 /// Why a request failed (JSON-RPC 2.0, section 5.1). It has no data.
@@ -32,12 +50,4 @@ pub enum Message {
         id: Option<Id>,
         answer: Result<Value, ErrorObject>,
     },
-}
-
-/// What the member `id` of a message is.
-#[derive(Drop)]
-pub(crate) enum IdMember {
-    Absent,
-    Given(Id),
-    Bad,
 }

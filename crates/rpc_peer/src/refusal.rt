@@ -1,6 +1,9 @@
 use ob_text::NoMemory;
 
-/// The code of a body that is no valid request (JSON-RPC 2.0, section 5.1).
+/// The code of a body that is no JSON (JSON-RPC 2.0, section 5.1).
+pub const PARSE_ERROR: i32 = -32700;
+
+/// The code of a body that is JSON and no message (JSON-RPC 2.0, section 5.1).
 pub const INVALID_REQUEST: i32 = -32600;
 
 /// Why a body isn't a message: the code that its sender is answered, or no memory to read it.

@@ -1,7 +1,10 @@
-ghost use Rattle.std.specs.Prelude.{◌≡◌, IfOk, false};
+ghost use Rattle.std.specs.Prelude.{◌≡◌, FitsSigned, IfOk, OnOk, false};
+ghost use Rattle.std.specs.Int.{w64};
 ghost use Rattle.std.specs.Str.{IsUtf8};
 ghost use Rattle.serde_json.specs.View.{view};
 ghost use Rattle.serde_json.specs.Written.{has_float};
+ghost use Rattle.rpc_peer.specs.Meaning.{meaning};
+ghost use Rattle.rpc_peer.specs.Returning.{Returns, HasCode};
 ghost use Rattle.rpc_peer.specs.Said.{said, said_data, id_data, answered_data, error_data, body_of, HasText, HasAnyText, HasTexts, request, notification, result as answers, failure};
 
 use crate::message::{ErrorObject, Id, Message};
@@ -14,16 +17,20 @@ use std::alloc::Global;
 #[tactic(auto, unfolding(crate::specs::Said::body_of))]
 pub fn write_message(alloc: Global, message: &Message) -> Result<Vec<u8>, NoMemory>
     requires { HasTexts (said message.now) }
-    ensures { IfOk result (λ b. has_float (said_data (said message.now)) ≡ false
+    ensures body { IfOk result (λ b. has_float (said_data (said message.now)) ≡ false
         → b.items ≡ body_of (said message.now)) }
+    ensures again { IfOk result (λ b. Returns (said message.now)
+        → meaning b.items ≡ Ok (said message.now)) }
 {
     let value = message_value(alloc, message)?;
-    Ok(value.to_string(alloc)?.into_bytes())
+    let text = value.to_string(alloc)?;
+    Ok(text.into_bytes())
 }
 
 fn message_value(alloc: Global, message: &Message) -> Result<Value, NoMemory>
     requires { HasTexts (said message.now) }
-    ensures { IfOk result (λ v. view v ≡ said_data (said message.now)) }
+    ensures value { IfOk result (λ v. view v ≡ said_data (said message.now)) }
+    ensures code { OnOk result (HasCode (said message.now)) }
 {
     match message {
         Message::Request { id, method, params } => match params {
@@ -90,7 +97,9 @@ fn success(alloc: Global, id: &Option<Id>, value: &Value) -> Result<Value, NoMem
 fn failure(alloc: Global, id: &Option<Id>, error: &ErrorObject) -> Result<Value, NoMemory>
     requires id { HasAnyText id.now }
     requires message { IsUtf8 error.now.message }
-    ensures { IfOk result (λ v. view v ≡ said_data (failure id.now error.now.code error.now.message)) }
+    ensures value { IfOk result (λ v. view v
+        ≡ said_data (failure id.now error.now.code error.now.message)) }
+    ensures code { OnOk result (FitsSigned w64 error.now.code) }
 {
     let id = answered_value(alloc, id)?;
     let error = error_value(alloc, error)?;
@@ -99,7 +108,8 @@ fn failure(alloc: Global, id: &Option<Id>, error: &ErrorObject) -> Result<Value,
 
 fn error_value(alloc: Global, error: &ErrorObject) -> Result<Value, NoMemory>
     requires { IsUtf8 error.now.message }
-    ensures { IfOk result (λ v. view v ≡ error_data error.now.code error.now.message) }
+    ensures value { IfOk result (λ v. view v ≡ error_data error.now.code error.now.message) }
+    ensures code { OnOk result (FitsSigned w64 error.now.code) }
 {
     let code = error.code;
     let message = text(&error.message);
