@@ -1,3 +1,4 @@
+pub mod EventLaws
 pub mod ProgressLaws
 pub mod RunLaws
 pub mod SessionLaws

@@ -1,83 +1,65 @@
 -- How a session comes further.
-use Rattle.std.proofs.Common.{◌≡◌, ◌+◌, ◌++◌, ℕ, List, [], ◌∷◌, length, flat_map, Option, refl, sym, ap, ◌∙◌, subst, arith, append_assoc, append-nil, length-append}
-use Rattle.std.proofs.lemmas.Grind.{flat_map-append}
-use Rattle.bsp_edge.specs.Streams.{Gives}
-use Rattle.bsp_edge.proofs.StreamLaws.{takes_append, gives_append}
+use Rattle.std.proofs.Common.{◌≡◌, ◌+◌, ◌++◌, ℕ, List, [], ◌∷◌, length, Option, refl, sym, ap, ◌∙◌, subst, arith, append-nil, length-append}
+use Rattle.bsp_edge.proofs.StreamLaws.{takes_append}
 use Rattle.rpc_frame.specs.Frames.{BeginsWith, HasNoFrame, IsBorder, FramesTo, IsSound, Waiting}
 use Rattle.rpc_frame.specs.declared.damage.Damage.{Damage}
 use Rattle.rpc_frame.specs.Damages.{DamageAt, HasDamage}
 use Rattle.rpc_frame.proofs.BrokenLaws.{broken_damaged}
 use Rattle.rpc_frame.proofs.DamageLaws.{damage_behind, damage_broken, damage_kind, damage_place}
 use Rattle.rpc_frame.proofs.FrameLaws.{FramesTo-append, frames_more, sound_behind as sound_behind_frames, broken_rest, rest_no_border}
-use Rattle.rpc_peer.specs.Said.{Said}
-use Rattle.session_law.specs.declared.InputEnd.{InputEnd}
-use Rattle.session_law.specs.Lawful.{text_of}
-use Rattle.session_law.specs.Order.{Event, take, ends, takes_of, writes_of}
-use Rattle.session_core.specs.Standing.{onto}
+use Rattle.session_law.specs.Order.{Event, takes_of}
 use Rattle.session_core.specs.declared.session.Core.{Core}
-use Rattle.session_core.proofs.StandingLaws.{stood_lawful, takes_of-onto, writes_of-onto, end_of-onto}
+use Rattle.session_core.proofs.StandingLaws.{stood_lawful}
 use Rattle.bsp_cli.specs.Progress.{Progress, Stopped, Feeds, Loses, fed}
-use Rattle.bsp_cli.specs.Writing.{Acts, HaltsAt}
+use Rattle.bsp_cli.specs.Outside.{Told}
+use Rattle.bsp_cli.specs.Writing.{Steps, Stops}
+use Rattle.bsp_cli.proofs.EventLaws.{takes_of-append, end_of-append, tells_append}
 
 -- one frame and then such bytes
 one_frame : (bytes body after : List ℕ) → BeginsWith bytes body after → FramesTo bytes (body ∷ []) after
 one_frame bytes body after begins = record { after = after; begins = begins; others = refl }
 
-module _ (messages : List Said) (order behind : List Event) (same : writes_of behind ≡ writes_of order) (a b c : Option (List ℕ)) (tail : List ℕ) where
-  -- the writes of an order with messages written behind it
-  joined : Gives a b (flat_map text_of (writes_of order)) → Gives b c (flat_map text_of messages ++ tail) → Gives a c (flat_map text_of (writes_of (onto messages behind)) ++ tail)
-  joined before after =
-      let all : flat_map text_of (writes_of (onto messages behind)) ≡ flat_map text_of (writes_of order) ++ flat_map text_of messages =
-      ap (flat_map text_of) (writes_of-onto messages behind ∙ ap (λ w. w ++ messages) same) ∙ flat_map-append text_of (writes_of order) messages in
-      subst (λ bytes. Gives a c bytes) (sym (ap (λ w. w ++ tail) all ∙ append_assoc (flat_map text_of (writes_of order)) (flat_map text_of messages) tail))
-      (gives_append a b c (flat_map text_of (writes_of order)) (flat_map text_of messages ++ tail) before after)
+module _ (c d : Core) (old new : Waiting) (body : List ℕ) (left0 left : Option (List ℕ)) (start before behind : Told) (begins : BeginsWith old.bytes body new.bytes) (same : fed new ≡ fed old)
+    (so : Progress c old left0 left start before) where
+  joined_frames : (events : List Event) → takes_of events ≡ body ∷ [] → FramesTo so.read (takes_of (events ++ so.order)) new.bytes
+  joined_frames events takes =
+      subst (λ bodies. FramesTo so.read bodies new.bytes) (sym (takes_of-append events so.order ∙ ap (λ bodies. takes_of so.order ++ bodies) takes))
+      (FramesTo-append so.read (takes_of so.order) (body ∷ []) old.bytes new.bytes so.frames (one_frame old.bytes body new.bytes begins))
 
-written : (messages : List Said) (order : List Event) (body : List ℕ) (a b c : Option (List ℕ)) (tail : List ℕ) → Gives a b (flat_map text_of (writes_of order))
-    → Gives b c (flat_map text_of messages ++ tail) → Gives a c (flat_map text_of (writes_of (onto messages (take body ∷ order))) ++ tail)
-written messages order body a b c tail = joined messages order (take body ∷ order) refl a b c tail
-
-pub written_end : (messages : List Said) (order : List Event) (how : InputEnd) (a b c : Option (List ℕ)) (tail : List ℕ) → Gives a b (flat_map text_of (writes_of order))
-    → Gives b c (flat_map text_of messages ++ tail) → Gives a c (flat_map text_of (writes_of (onto messages (ends how ∷ order))) ++ tail)
-written_end messages order how a b c tail = joined messages order (ends how ∷ order) refl a b c tail
-
-module _ (c d : Core) (old new : Waiting) (body : List ℕ) (left0 left given0 g h : Option (List ℕ)) (begins : BeginsWith old.bytes body new.bytes) (same : fed new ≡ fed old) where
   -- a frame that waited was acted on
-  pub progress_acts : Progress c old left0 left given0 g → Acts c d (take body) g h → Progress d new left0 left given0 h
-  progress_acts so acts =
+  pub progress_acts : Steps c d (body ∷ []) before behind → Progress d new left0 left start behind
+  progress_acts steps =
       record {
-        order = onto acts.messages (take body ∷ so.order);
-        stands = acts.stands so.order so.stands;
-        unended = end_of-onto acts.messages (take body ∷ so.order) ∙ so.unended;
+        order = steps.events ++ so.order;
+        stands = steps.stands so.order so.stands;
+        unended = end_of-append steps.events so.order steps.unended ∙ so.unended;
         read = so.read;
         consumed = so.consumed;
-        frames = subst (λ takes. FramesTo so.read takes new.bytes) (sym (takes_of-onto acts.messages (take body ∷ so.order)))
-            (FramesTo-append so.read (takes_of so.order) (body ∷ []) old.bytes new.bytes so.frames (one_frame old.bytes body new.bytes begins));
+        frames = joined_frames steps.events steps.takes;
         count = so.count ∙ sym same;
-        put = subst (λ bytes. Gives given0 h bytes) (append-nil _)
-            (written acts.messages so.order body given0 g h [] so.put (subst (λ bytes. Gives g h bytes) (sym (append-nil _)) acts.put));
+        tells = tells_append so.order steps.events [] start before behind so.tells steps.tells;
       }
 
   -- a frame that waited was taken, and the session had to stop
-  pub stopped_at : Progress c old left0 left given0 g → HaltsAt c (take body) g h → Stopped new.given_end left0 left given0 h
-  stopped_at so halts =
+  pub stopped_at : Stops c (body ∷ []) before behind → Stopped new.given_end left0 left start behind
+  stopped_at stops =
       record {
-        order = onto halts.messages (take body ∷ so.order);
-        lawful = halts.lawful so.order so.stands;
-        unended = end_of-onto halts.messages (take body ∷ so.order) ∙ so.unended;
+        order = stops.events ++ so.order;
+        lawful = stops.lawful so.order so.stands;
+        unended = end_of-append stops.events so.order stops.unended ∙ so.unended;
         read = so.read;
         consumed = so.consumed;
         waiting = new.bytes;
-        frames = subst (λ takes. FramesTo so.read takes new.bytes) (sym (takes_of-onto halts.messages (take body ∷ so.order)))
-            (FramesTo-append so.read (takes_of so.order) (body ∷ []) old.bytes new.bytes so.frames (one_frame old.bytes body new.bytes begins));
+        frames = joined_frames stops.events stops.takes;
         count = so.count ∙ sym same;
-        tail = halts.tail;
-        put = written halts.messages so.order body given0 g h halts.tail so.put halts.put;
-        cut = halts.cut;
+        tail = stops.tail;
+        tells = tells_append so.order stops.events stops.tail start before behind so.tells stops.tells;
+        cut = stops.cut;
       }
 
 -- the session stops where it stands
-pub stopped_here : (core : Core) (stream : Waiting) (left0 left given0 given : Option (List ℕ)) → Progress core stream left0 left given0 given → Stopped stream.given_end left0 left given0 given
-stopped_here core stream left0 left given0 given so =
+pub stopped_here : (core : Core) (stream : Waiting) (left0 left : Option (List ℕ)) (start now : Told) → Progress core stream left0 left start now → Stopped stream.given_end left0 left start now
+stopped_here core stream left0 left start now so =
     record {
       order = so.order;
       lawful = stood_lawful core so.order so.stands;
@@ -88,7 +70,7 @@ stopped_here core stream left0 left given0 given so =
       frames = so.frames;
       count = so.count;
       tail = [];
-      put = subst (λ bytes. Gives given0 given bytes) (sym (append-nil _)) so.put;
+      tells = so.tells;
       cut = λ some. absurd (some refl);
     }
 
@@ -119,9 +101,9 @@ border_empty [] none border = refl
 border_empty (b ∷ bytes) none border = absurd (rest_no_border (b ∷ bytes) [] (b ∷ bytes) refl none (omega arith) border)
 
 -- a piece was read, which the decoder has
-pub progress_feeds : (core : Core) (old new : Waiting) (left0 left more given0 given : Option (List ℕ)) → Progress core old left0 left given0 given → Feeds old new left more
-    → Progress core new left0 more given0 given
-progress_feeds core old new left0 left more given0 given so feeds =
+pub progress_feeds : (core : Core) (old new : Waiting) (left0 left more : Option (List ℕ)) (start now : Told) → Progress core old left0 left start now → Feeds old new left more
+    → Progress core new left0 more start now
+progress_feeds core old new left0 left more start now so feeds =
     rw feeds.stream (record {
       order = so.order;
       stands = so.stands;
@@ -130,13 +112,13 @@ progress_feeds core old new left0 left more given0 given so feeds =
       consumed = takes_append left0 left more so.read feeds.piece so.consumed feeds.taken;
       frames = frames_more so.read (takes_of so.order) old.bytes feeds.piece so.frames;
       count = omega (arith, so.count, length-append so.read feeds.piece, length-append old.bytes feeds.piece);
-      put = so.put;
+      tells = so.tells;
     })
 
 -- a piece was read, which the decoder found no memory for
-pub stopped_feeding : (core : Core) (old new : Waiting) (left0 left more given0 given : Option (List ℕ)) → Progress core old left0 left given0 given → Loses old new left more
-    → Stopped new.given_end left0 more given0 given
-stopped_feeding core old new left0 left more given0 given so loses =
+pub stopped_feeding : (core : Core) (old new : Waiting) (left0 left more : Option (List ℕ)) (start now : Told) → Progress core old left0 left start now → Loses old new left more
+    → Stopped new.given_end left0 more start now
+stopped_feeding core old new left0 left more start now so loses =
     rw loses.stream (record {
       order = so.order;
       lawful = stood_lawful core so.order so.stands;
@@ -147,11 +129,11 @@ stopped_feeding core old new left0 left more given0 given so loses =
       frames = frames_more so.read (takes_of so.order) old.bytes loses.piece so.frames;
       count = omega (arith, so.count, length-append so.read loses.piece, length-append old.bytes loses.piece);
       tail = [];
-      put = subst (λ bytes. Gives given0 given bytes) (sym (append-nil _)) so.put;
+      tells = so.tells;
       cut = λ some. absurd (some refl);
     })
 
 -- nothing was read
-pub progress_same : (core : Core) (old new : Waiting) (left0 left more given0 given : Option (List ℕ)) → Progress core old left0 left given0 given → new ≡ old → more ≡ left
-    → Progress core new left0 more given0 given
-progress_same core old new left0 left more given0 given so same_stream same_left = rw (same_stream, same_left) so
+pub progress_same : (core : Core) (old new : Waiting) (left0 left more : Option (List ℕ)) (start now : Told) → Progress core old left0 left start now → new ≡ old → more ≡ left
+    → Progress core new left0 more start now
+progress_same core old new left0 left more start now so same_stream same_left = rw (same_stream, same_left) so

@@ -7,11 +7,11 @@ use Rattle.session_law.specs.declared.InputEnd.TheVariants.{Border, Damaged, Fai
 use Rattle.rpc_peer.specs.Meaning.{meaning}
 use Rattle.rpc_peer.specs.Said.{Said, request, notification, result, failure}
 use Rattle.session_law.specs.Methods.{is_named}
-use Rattle.session_law.specs.Order.{Event, take, ends, write, end_of}
+use Rattle.session_law.specs.Order.{Event, take, ends, hand, write, end_of}
 use Rattle.session_law.specs.Past.{exit_status, closed_after, status_after}
 use Rattle.bsp_cli.specs.Notes.{GivesPart, Notes, NotedAs, whole, failed, note_for}
 use Rattle.bsp_cli.specs.Served.{Served}
-use Rattle.bsp_cli.specs.Session.{Change, EndsFor, Session}
+use Rattle.bsp_cli.specs.Session.{Change, TreeChange, EndsFor, Session}
 use Rattle.bsp_cli.specs.Writing.{GivesFront}
 
 -- a note that was written in part
@@ -28,9 +28,9 @@ notes_fit old new f g owed status damage (whole given) =
     }
 notes_fit old new f g owed status damage (failed part rose) = record { whole = λ other. absurd (other refl); part = λ _. part }
 
-module _ (input output : Change) (taken : ℕ) (damage : Option Damage) where
+module _ (input : Change) (tree : TreeChange) (output : Change) (taken : ℕ) (damage : Option Damage) where
   -- the session is the same where its note failed
-  noted_session : (old new : Option (List ℕ)) (f g owed status : ℕ) → NotedAs old new f g owed damage status → Session input output owed taken damage → Session input output status taken damage
+  noted_session : (old new : Option (List ℕ)) (f g owed status : ℕ) → NotedAs old new f g owed damage status → Session input tree output owed taken damage → Session input tree output status taken damage
   noted_session old new f g owed status (whole given) session = session
   noted_session old new f g owed status (failed part rose) session =
       record {
@@ -43,6 +43,8 @@ module _ (input output : Change) (taken : ℕ) (damage : Option Damage) where
         frames = session.frames;
         counts = session.counts;
         ends_for = session.ends_for;
+        hands = session.hands;
+        failures = session.failures;
         tail = session.tail;
         put = session.put;
         cut = session.cut;
@@ -52,8 +54,8 @@ module _ (input output : Change) (taken : ℕ) (damage : Option Damage) where
         no_other = lit≤ tt;
       }
 
-  pub noted_run : (notes : Change) (owed status : ℕ) → NotedAs notes.old notes.new notes.faults_old notes.faults_new owed damage status → Session input output owed taken damage
-      → Served input output notes status taken
+  pub noted_run : (notes : Change) (owed status : ℕ) → NotedAs notes.old notes.new notes.faults_old notes.faults_new owed damage status → Session input tree output owed taken damage
+      → Served input tree output notes status taken
   noted_run notes owed status noted session =
       record {
         damage = damage;
@@ -85,19 +87,20 @@ failed_end (take body ∷ order) three =
 failed_end (ends Border ∷ order) three = absurd (some_apart 1 3 (omega arith) three)
 failed_end (ends Damaged ∷ order) three = absurd (some_apart 2 3 (omega arith) three)
 failed_end (ends Failed ∷ order) three = refl
+failed_end (hand handed ∷ order) three = failed_end order three
 failed_end (write m ∷ order) three = failed_end order three
 
 -- a session that ends with 3 ends so for a failed read
-failed_for : (input output : Change) (taken : ℕ) (damage : Option Damage) → Session input output 3 taken damage → Rose input.faults_old input.faults_new
-failed_for input output taken damage session =
+failed_for : (input : Change) (tree : TreeChange) (output : Change) (taken : ℕ) (damage : Option Damage) → Session input tree output 3 taken damage → Rose input.faults_old input.faults_new
+failed_for input tree output taken damage session =
     let cause = subst (λ how. EndsFor how damage input session.read session.rest) (failed_end session.order (session.agrees (omega arith))) session.ends_for in
     cause.1
 
-pub noted_input : (old new : Option (List ℕ)) (f g owed status : ℕ) (input output : Change) (taken : ℕ) (damage : Option Damage) → NotedAs old new f g owed damage status
-    → Session input output owed taken damage → status ≡ 3 → Rose input.faults_old input.faults_new
-noted_input old new f g owed status input output taken damage (whole given) session three =
-    failed_for input output taken damage (subst (λ s. Session input output s taken damage) three session)
-noted_input old new f g owed status input output taken damage (failed part rose) session three = absurd (omega arith)
+pub noted_input : (old new : Option (List ℕ)) (f g owed status : ℕ) (input : Change) (tree : TreeChange) (output : Change) (taken : ℕ) (damage : Option Damage) → NotedAs old new f g owed damage status
+    → Session input tree output owed taken damage → status ≡ 3 → Rose input.faults_old input.faults_new
+noted_input old new f g owed status input tree output taken damage (whole given) session three =
+    failed_for input tree output taken damage (subst (λ s. Session input tree output s taken damage) three session)
+noted_input old new f g owed status input tree output taken damage (failed part rose) session three = absurd (omega arith)
 
 -- a sink that failed is the output or the notes
 pub noted_sink : (old new : Option (List ℕ)) (f g owed status h k : ℕ) (damage : Option Damage) → NotedAs old new f g owed damage status → (owed ≡ 4 → Rose h k) → status ≡ 4 → Rose h k ⊎ Rose f g

@@ -8,22 +8,25 @@ use Rattle.rpc_frame.proofs.DamageLaws.{damage_behind}
 use Rattle.rpc_frame.proofs.FrameLaws.{nil_no_frame, broken_rest, broken_not_sound, sound_front}
 use Rattle.session_law.specs.declared.InputEnd.{InputEnd}
 use Rattle.session_law.specs.declared.InputEnd.TheVariants as input_end
-use Rattle.session_law.specs.Order.{ends, takes_of}
-use Rattle.session_law.specs.Past.{end_status}
-use Rattle.rpc_peer.specs.Said.{Said}
-use Rattle.session_core.specs.Standing.{StandsFor, onto, IsQuiet, IsAlive}
+use Rattle.session_law.specs.Lawful.{IsSettled}
+use Rattle.session_law.specs.Order.{Event, ends, write, takes_of}
+use Rattle.session_law.specs.Past.{closed_by, end_status, open_after}
+use Rattle.rpc_peer.specs.Said.{Said, request, notification, result, failure}
+use Rattle.session_core.specs.Standing.{StandsFor, Knows, onto, IsQuiet, IsAlive}
+use Rattle.session_core.specs.State.{state_of}
 use Rattle.session_core.specs.declared.session.Core.{Core}
-use Rattle.session_core.proofs.StandingLaws.{stood_lawful, known, takes_of-onto, end_of-onto, status_after-onto, status_within}
-use Rattle.bsp_cli.specs.Progress.{Progress, Stopped, EndsBy, IsOut, Finishes, ended, halted, HasEnded, fed}
-use Rattle.bsp_cli.specs.Session.{Change, EndsFor, HasNoMore, IsDamage, Session}
+use Rattle.session_core.proofs.StandingLaws.{stood_lawful, known, settled, takes_of-onto, end_of-onto, status_after-onto, status_within}
+use Rattle.bsp_cli.specs.Progress.{Progress, Stopped, EndsBy, IsOut, Finishes, ended, halted, HasEnded, IsReady, fed}
+use Rattle.bsp_cli.specs.Session.{Change, TreeChange, EndsFor, HasNoMore, IsDamage, Session}
+use Rattle.bsp_cli.specs.Outside.{Told, told}
 use Rattle.bsp_cli.specs.Writing.{Acts, HaltsAt, status_of_stop}
 use Rattle.bsp_cli.specs.Endings.{how_of, damage_of}
 use Rattle.bsp_cli.specs.declared.serve.Ending.{Ending}
 use Rattle.bsp_cli.specs.declared.serve.Ending.TheVariants.{Border, Damaged, Failed}
 use Rattle.bsp_cli.specs.declared.stop.Stop.{Stop}
 use Rattle.bsp_cli.specs.declared.stop.Stop.TheVariants.{Sink, NoMemory}
-use Rattle.bsp_edge.proofs.StreamLaws.{takes_nothing, gives_nothing}
-use Rattle.bsp_cli.proofs.ProgressLaws.{written_end}
+use Rattle.bsp_edge.proofs.StreamLaws.{takes_nothing}
+use Rattle.bsp_cli.proofs.EventLaws.{tells_end, tells_nothing}
 
 -- ---- the frames through the last that was acted on
 
@@ -66,22 +69,40 @@ status_small input_end.Border = lit≤ tt
 status_small input_end.Damaged = lit≤ tt
 status_small input_end.Failed = lit≤ tt
 
+-- ---- nothing is owed at an end
+
+closed_nothing : (m : Said) → closed_by m [] ≡ []
+closed_nothing (request id method params) = refl
+closed_nothing (notification method params) = refl
+closed_nothing (result None value) = refl
+closed_nothing (result (Some id) value) = refl
+closed_nothing (failure None code text) = refl
+closed_nothing (failure (Some id) code text) = refl
+
+open_onto : (messages : List Said) (order : List Event) → open_after order ≡ [] → open_after (onto messages order) ≡ []
+open_onto [] order none = none
+open_onto (m ∷ messages) order none = open_onto messages (write m ∷ order) (ap (closed_by m) none ∙ closed_nothing m)
+
 -- ---- the three ways
 
-module _ (left0 left given0 given : Option (List ℕ)) (in_old in_new out_old out_new : ℕ) where
-  abbrev input : Change
-  input = record { old = left0; new = left; faults_old = in_old; faults_new = in_new }
+abbrev input_change : Option (List ℕ) → Option (List ℕ) → ℕ → ℕ → Change
+input_change left0 left faults_old faults_new = record { old = left0; new = left; faults_old = faults_old; faults_new = faults_new }
 
-  abbrev output : Change
-  output = record { old = given0; new = given; faults_old = out_old; faults_new = out_new }
+abbrev tree_change : Told → Told → TreeChange
+tree_change start now = record { old = start.handed; new = now.handed; faults_old = start.faults; faults_new = now.faults }
 
+abbrev output_change : Told → Told → ℕ → ℕ → Change
+output_change start now faults_old faults_new = record { old = start.given; new = now.given; faults_old = faults_old; faults_new = faults_new }
+
+module _ (left0 left : Option (List ℕ)) (start now : Told) (in_old in_new out_old out_new : ℕ) where
   -- the status of a session that took an exit
-  pub exits_low : (core : Core) (stream : Waiting) (status : ℕ) → Progress core stream left0 left given0 given → HasEnded core (Some status) → status ≤ 3
+  pub exits_low : (core : Core) (stream : Waiting) (status : ℕ) → Progress core stream left0 left start now → HasEnded core (Some status) → status ≤ 3
   exits_low core stream status so end =
       subst (λ s. IfSome s (λ n. n ≤ 3)) ((known core so.order end.quiet end.alive so.stands).status_is ∙ end.status_is) (status_within so.order)
 
   -- the session took an exit
-  pub session_exits : (core : Core) (stream : Waiting) (status : ℕ) → Progress core stream left0 left given0 given → HasEnded core (Some status) → Session input output status stream.given_end None
+  pub session_exits : (core : Core) (stream : Waiting) (status : ℕ) → Progress core stream left0 left start now → HasEnded core (Some status)
+      → Session (input_change left0 left in_old in_new) (tree_change start now) (output_change start now out_old out_new) status stream.given_end None
   session_exits core stream status so end =
       let knows = known core so.order end.quiet end.alive so.stands in
       let status_is = knows.status_is ∙ end.status_is in
@@ -96,16 +117,19 @@ module _ (left0 left given0 given : Option (List ℕ)) (in_old in_new out_old ou
         frames = taken_frames so.read (takes_of so.order) stream.bytes stream.given_end so.frames so.count;
         counts = rw so.unended refl;
         ends_for = rw so.unended tt;
+        hands = so.tells.hands;
+        failures = so.tells.failures;
         tail = [];
-        put = subst (λ bytes. Gives given0 given bytes) (sym (append-nil _)) so.put;
+        put = so.tells.put;
         cut = λ some. absurd (some refl);
         whole = λ _. refl;
-        settled = λ _. knows.settled;
+        settled = λ _. settled core so.order end.free knows;
         agrees = λ _. status_is;
         no_other = omega arith;
       }
 
-  stopped : (given_end status : ℕ) → 4 ≤ status → status ≤ 5 → Stopped given_end left0 left given0 given → Session input output status given_end None
+  stopped : (given_end status : ℕ) → 4 ≤ status → status ≤ 5 → Stopped given_end left0 left start now
+      → Session (input_change left0 left in_old in_new) (tree_change start now) (output_change start now out_old out_new) status given_end None
   stopped given_end status low high so =
       record {
         order = so.order;
@@ -117,8 +141,10 @@ module _ (left0 left given0 given : Option (List ℕ)) (in_old in_new out_old ou
         frames = taken_frames so.read (takes_of so.order) so.waiting given_end so.frames so.count;
         counts = rw so.unended refl;
         ends_for = rw so.unended tt;
+        hands = so.tells.hands;
+        failures = so.tells.failures;
         tail = so.tail;
-        put = so.put;
+        put = so.tells.put;
         cut = so.cut;
         whole = λ small. absurd (omega arith);
         settled = λ small. absurd (omega arith);
@@ -127,72 +153,91 @@ module _ (left0 left given0 given : Option (List ℕ)) (in_old in_new out_old ou
       }
 
   -- the session had to stop before an end of its input
-  pub session_stops : (given_end : ℕ) (stop : Stop) → Stopped given_end left0 left given0 given → Session input output (status_of_stop stop) given_end None
+  pub session_stops : (given_end : ℕ) (stop : Stop) → Stopped given_end left0 left start now
+      → Session (input_change left0 left in_old in_new) (tree_change start now) (output_change start now out_old out_new) (status_of_stop stop) given_end None
   session_stops given_end Sink so = stopped given_end 4 (lit≤ tt) (lit≤ tt) so
   session_stops given_end NoMemory so = stopped given_end 5 (lit≤ tt) (lit≤ tt) so
 
-  module _ (c d : Core) (stream : Waiting) (how : InputEnd) (damage : Option Damage) (middle : Option (List ℕ)) (so : Progress c stream left0 left given0 middle) (drained : HasNoFrame stream.bytes)
-      (cause : EndsFor (Some how) damage input so.read stream.bytes) where
-    ended_frames : (messages : List Said) → Frames (take (fed stream) so.read) (takes_of (onto messages (ends how ∷ so.order))) stream.bytes
-    ended_frames messages =
-        record {
-          frames = rw (takes_of-onto messages (ends how ∷ so.order), ← so.count, all_taken so.read) so.frames;
-          none = drained;
-        }
+module _ (left0 left : Option (List ℕ)) (start middle : Told) (given : Option (List ℕ)) (in_old in_new out_old out_new : ℕ) (c d : Core) (stream : Waiting) (how : InputEnd) (damage : Option Damage)
+    (so : Progress c stream left0 left start middle) (ready : IsReady c) (drained : HasNoFrame stream.bytes) (cause : EndsFor (Some how) damage (input_change left0 left in_old in_new) so.read stream.bytes) where
+  abbrev now : Told
+  now = told given middle.handed middle.faults
 
-    ends_well : Acts c d (ends how) middle given → IsQuiet d → IsAlive d → Session input output (end_status how) (fed stream) damage
-    ends_well acts quiet alive =
-        let order = onto acts.messages (ends how ∷ so.order) in
-        let knows = known d order quiet alive (acts.stands so.order so.stands) in
-        let ended = end_of-onto acts.messages (ends how ∷ so.order) in
-        let status_is = status_after-onto acts.messages (ends how ∷ so.order) in
-        let small : end_status how ≤ 3 = status_small how in
-        record {
-          order = order;
-          lawful = stood_lawful d order (acts.stands so.order so.stands);
-          read = so.read;
-          consumed = so.consumed;
-          within = omega (arith, so.count);
-          rest = stream.bytes;
-          frames = ended_frames acts.messages;
-          counts = rw ended (sym so.count);
-          ends_for = rw ended cause;
-          tail = [];
-          put = written_end acts.messages so.order how given0 middle given [] so.put (subst (λ bytes. Gives middle given bytes) (sym (append-nil _)) acts.put);
-          cut = λ some. absurd (some refl);
-          whole = λ _. refl;
-          settled = λ _. knows.settled;
-          agrees = λ _. status_is;
-          no_other = omega arith;
-        }
+  ended_frames : (messages : List Said) → Frames (take (fed stream) so.read) (takes_of (onto messages (ends how ∷ so.order))) stream.bytes
+  ended_frames messages =
+      record {
+        frames = rw (takes_of-onto messages (ends how ∷ so.order), ← so.count, all_taken so.read) so.frames;
+        none = drained;
+      }
 
-    ends_stopped : (status : ℕ) → 4 ≤ status → status ≤ 5 → HaltsAt c (ends how) middle given → Session input output status (fed stream) damage
-    ends_stopped status low high halts =
-        let ended = end_of-onto halts.messages (ends how ∷ so.order) in
-        record {
-          order = onto halts.messages (ends how ∷ so.order);
-          lawful = halts.lawful so.order so.stands;
-          read = so.read;
-          consumed = so.consumed;
-          within = omega (arith, so.count);
-          rest = stream.bytes;
-          frames = ended_frames halts.messages;
-          counts = rw ended (sym so.count);
-          ends_for = rw ended cause;
-          tail = halts.tail;
-          put = written_end halts.messages so.order how given0 middle given halts.tail so.put halts.put;
-          cut = halts.cut;
-          whole = λ small. absurd (omega arith);
-          settled = λ small. absurd (omega arith);
-          agrees = λ small. absurd (omega arith);
-          no_other = high;
-        }
+  -- all was answered before the end, and what the end is owed was answered then
+  ended_settled : (messages : List Said) → Knows (state_of d) (onto messages (ends how ∷ so.order)) → IsSettled (onto messages (ends how ∷ so.order))
+  ended_settled messages knows =
+      let before = settled c so.order ready.free (known c so.order ready.quiet ready.alive so.stands) in
+      record { requests = open_onto messages (ends how ∷ so.order) before.requests; nulls = knows.nulls_are }
 
-    -- the session was told how its input ended
-    pub session_ends : (status : ℕ) → Finishes c d how middle given status → Session input output status (fed stream) damage
-    session_ends status (ended acts quiet alive) = ends_well acts quiet alive
-    session_ends status (halted Sink halts) = ends_stopped 4 (lit≤ tt) (lit≤ tt) halts
-    session_ends status (halted NoMemory halts) = ends_stopped 5 (lit≤ tt) (lit≤ tt) halts
+  ends_well : Acts c d (ends how) middle.given given → IsQuiet d → IsAlive d
+      → Session (input_change left0 left in_old in_new) (tree_change start now) (output_change start now out_old out_new) (end_status how) (fed stream) damage
+  ends_well acts quiet alive =
+      let order = onto acts.messages (ends how ∷ so.order) in
+      let knows = known d order quiet alive (acts.stands so.order so.stands) in
+      let ended = end_of-onto acts.messages (ends how ∷ so.order) in
+      let status_is = status_after-onto acts.messages (ends how ∷ so.order) in
+      let small : end_status how ≤ 3 = status_small how in
+      let tells = tells_end so.order how acts.messages [] start middle given so.tells (subst (λ bytes. Gives middle.given given bytes) (sym (append-nil _)) acts.put) in
+      record {
+        order = order;
+        lawful = stood_lawful d order (acts.stands so.order so.stands);
+        read = so.read;
+        consumed = so.consumed;
+        within = omega (arith, so.count);
+        rest = stream.bytes;
+        frames = ended_frames acts.messages;
+        counts = rw ended (sym so.count);
+        ends_for = rw ended cause;
+        hands = tells.hands;
+        failures = tells.failures;
+        tail = [];
+        put = tells.put;
+        cut = λ some. absurd (some refl);
+        whole = λ _. refl;
+        settled = λ _. ended_settled acts.messages knows;
+        agrees = λ _. status_is;
+        no_other = omega arith;
+      }
+
+  ends_stopped : (status : ℕ) → 4 ≤ status → status ≤ 5 → HaltsAt c (ends how) middle.given given
+      → Session (input_change left0 left in_old in_new) (tree_change start now) (output_change start now out_old out_new) status (fed stream) damage
+  ends_stopped status low high halts =
+      let ended = end_of-onto halts.messages (ends how ∷ so.order) in
+      let tells = tells_end so.order how halts.messages halts.tail start middle given so.tells halts.put in
+      record {
+        order = onto halts.messages (ends how ∷ so.order);
+        lawful = halts.lawful so.order so.stands;
+        read = so.read;
+        consumed = so.consumed;
+        within = omega (arith, so.count);
+        rest = stream.bytes;
+        frames = ended_frames halts.messages;
+        counts = rw ended (sym so.count);
+        ends_for = rw ended cause;
+        hands = tells.hands;
+        failures = tells.failures;
+        tail = halts.tail;
+        put = tells.put;
+        cut = halts.cut;
+        whole = λ small. absurd (omega arith);
+        settled = λ small. absurd (omega arith);
+        agrees = λ small. absurd (omega arith);
+        no_other = high;
+      }
+
+  -- the session was told how its input ended
+  pub session_ends : (status : ℕ) → Finishes c d how middle.given given status
+      → Session (input_change left0 left in_old in_new) (tree_change start now) (output_change start now out_old out_new) status (fed stream) damage
+  session_ends status (ended acts quiet alive) = ends_well acts quiet alive
+  session_ends status (halted Sink halts) = ends_stopped 4 (lit≤ tt) (lit≤ tt) halts
+  session_ends status (halted NoMemory halts) = ends_stopped 5 (lit≤ tt) (lit≤ tt) halts
 
 -- ---- why the input ended
 
@@ -225,8 +270,8 @@ ends_for Failed stream told read bodies frames count cause =
 
 -- ---- at the start
 
-pub starts : (core : Core) (stream : Waiting) (left given : Option (List ℕ)) → StandsFor core [] → stream ≡ record { bytes = []; given_end = 0 } → Progress core stream left left given given
-starts core stream left given stands new =
+pub starts : (core : Core) (stream : Waiting) (left : Option (List ℕ)) (now : Told) → StandsFor core [] → stream ≡ record { bytes = []; given_end = 0 } → Progress core stream left left now now
+starts core stream left now stands new =
     rw new (record {
       order = [];
       stands = stands;
@@ -235,14 +280,13 @@ starts core stream left given stands new =
       consumed = takes_nothing left;
       frames = refl;
       count = refl;
-      put = gives_nothing given;
+      tells = tells_nothing now;
     })
 
--- nothing was read or written, for want of memory
-pub session_idle : (left given : Option (List ℕ)) (in_faults out_faults : ℕ)
-    → Session (record { old = left; new = left; faults_old = in_faults; faults_new = in_faults }) (record { old = given; new = given; faults_old = out_faults; faults_new = out_faults }) 5 0 None
-session_idle left given in_faults out_faults =
-    stopped left left given given in_faults in_faults out_faults out_faults 0 5 (lit≤ tt) (lit≤ tt) (record {
+-- nothing was read, asked or written, for want of memory
+pub session_idle : (left : Option (List ℕ)) (now : Told) (in_faults out_faults : ℕ) → Session (input_change left left in_faults in_faults) (tree_change now now) (output_change now now out_faults out_faults) 5 0 None
+session_idle left now in_faults out_faults =
+    stopped left left now now in_faults in_faults out_faults out_faults 0 5 (lit≤ tt) (lit≤ tt) (record {
       order = [];
       lawful = record { each = tt };
       unended = refl;
@@ -252,7 +296,7 @@ session_idle left given in_faults out_faults =
       frames = refl;
       count = refl;
       tail = [];
-      put = gives_nothing given;
+      tells = tells_nothing now;
       cut = λ some. absurd (some refl);
     })
 

@@ -1,18 +1,23 @@
 -- How what is written piece by piece, or message by message, joins.
-use Rattle.std.proofs.Common.{◌≡◌, ◌++◌, ◌<◌, ℕ, List, [], ◌∷◌, length, take, drop, flat_map, Option, Result, Ok, Err, OnOk, OnErr, refl, sym, ap, ◌∙◌, subst, arith, append_assoc, append-nil, length-append}
+use Rattle.std.proofs.Common.{◌≡◌, ◌++◌, ◌<◌, ℕ, List, [], ◌∷◌, length, take, drop, flat_map, Option, None, Result, Ok, Err, OnOk, OnErr, refl, sym, ap, ◌∙◌, subst, arith, append_assoc, append-nil, length-append}
 use Rattle.std.proofs.lemmas.List.{take-append-drop}
+use Rattle.bsp_edge.specs.Handing.{Hands}
 use Rattle.bsp_edge.specs.Streams.{Gives}
 use Rattle.bsp_edge.specs.Writing.{GivesFront as TookFront}
+use Rattle.bsp_edge.proofs.HandLaws.{hands_nothing}
 use Rattle.bsp_edge.proofs.StreamLaws.{gives_append, gives_nothing}
 use Rattle.rpc_peer.specs.Said.{Said}
-use Rattle.session_law.specs.Lawful.{IsFramed, text_of}
-use Rattle.session_law.specs.Order.{Event, write}
+use Rattle.session_law.specs.Lawful.{IsFramed, Lawful, text_of}
+use Rattle.session_law.specs.Order.{Entries, Event, take as takes_body, hand, write, takes_of, writes_of, hands_of, failures_of, end_of}
 use Rattle.session_core.specs.Standing.{StandsFor, onto}
 use Rattle.session_core.specs.declared.session.Core.{Core}
-use Rattle.session_core.proofs.StandingLaws.{stood_lawful, onto-push}
+use Rattle.session_core.proofs.StandingLaws.{stood_lawful, onto-push, takes_of-onto, end_of-onto}
 use Rattle.bsp_cli.specs.declared.stop.Stop.{Stop}
 use Rattle.bsp_cli.specs.declared.stop.Stop.TheVariants.{Sink, NoMemory}
-use Rattle.bsp_cli.specs.Writing.{Acts, Flushes, GivesFront, GivesSoFar, Halts, HaltsAt, Sends}
+use Rattle.bsp_cli.specs.Outside.{Told, told, Tells}
+use Rattle.bsp_cli.specs.Session.{RoseBy}
+use Rattle.bsp_cli.specs.Writing.{Acts, Flushes, GivesFront, GivesSoFar, Halts, HaltsAt, Sends, Steps, Stops}
+use Rattle.bsp_cli.proofs.EventLaws.{onto-append, takes_of-append, end_of-append, tells_append, tells_nothing, tells_onto, unasked}
 
 pub starts : (given : Option (List ℕ)) (bytes : List ℕ) → GivesSoFar given given bytes bytes
 starts given bytes = record { front = []; whole = refl; given = gives_nothing given }
@@ -155,3 +160,90 @@ halts_lost c d given event next =
       put = gives_nothing given;
       cut = λ some. absurd (some refl);
     }
+
+-- ---- steps
+
+module _ (c : Core) (event : Event) (bodies : List (List ℕ)) (a b : Told) (no_write : writes_of (event ∷ []) ≡ []) (takes : takes_of (event ∷ []) ≡ bodies) (unended : end_of (event ∷ []) ≡ None)
+    (hands : Hands a.handed b.handed (hands_of (event ∷ []))) (failures : RoseBy (failures_of (event ∷ [])) a.faults b.faults) where
+  steps_by : (d : Core) → Acts c d event a.given b.given → Steps c d bodies a b
+  steps_by d acts =
+      record {
+        events = onto acts.messages (event ∷ []);
+        stands = λ order stands. subst (λ behind. StandsFor d behind) (sym (onto-append acts.messages (event ∷ []) order)) (acts.stands order stands);
+        takes = takes_of-onto acts.messages (event ∷ []) ∙ takes;
+        unended = end_of-onto acts.messages (event ∷ []) ∙ unended;
+        tells = tells_onto event acts.messages [] a b no_write hands failures (subst (λ bytes. Gives a.given b.given bytes) (sym (append-nil (flat_map text_of acts.messages))) acts.put);
+      }
+
+  stops_by : HaltsAt c event a.given b.given → Stops c bodies a b
+  stops_by halts =
+      record {
+        events = onto halts.messages (event ∷ []);
+        lawful = λ order stands. subst (λ behind. Lawful behind) (sym (onto-append halts.messages (event ∷ []) order)) (halts.lawful order stands);
+        takes = takes_of-onto halts.messages (event ∷ []) ∙ takes;
+        unended = end_of-onto halts.messages (event ∷ []) ∙ unended;
+        tail = halts.tail;
+        tells = tells_onto event halts.messages halts.tail a b no_write hands failures halts.put;
+        cut = halts.cut;
+      }
+
+-- a body was taken, and the tree wasn't asked
+module _ (c : Core) (body : List ℕ) (handed : Option (List Entries)) (faults : ℕ) (given next : Option (List ℕ)) where
+  pub steps_take : (d : Core) → Acts c d (takes_body body) given next → Steps c d (body ∷ []) (told given handed faults) (told next handed faults)
+  steps_take d acts = steps_by c (takes_body body) (body ∷ []) (told given handed faults) (told next handed faults) refl refl refl (hands_nothing handed) (unasked faults) d acts
+
+  pub stops_take : HaltsAt c (takes_body body) given next → Stops c (body ∷ []) (told given handed faults) (told next handed faults)
+  stops_take halts = stops_by c (takes_body body) (body ∷ []) (told given handed faults) (told next handed faults) refl refl refl (hands_nothing handed) (unasked faults) halts
+
+-- the tree was asked
+module _ (c : Core) (got : Option Entries) (a b : Told) (hands : Hands a.handed b.handed (hands_of (hand got ∷ []))) (failures : RoseBy (failures_of (hand got ∷ [])) a.faults b.faults) where
+  pub steps_hand : (d : Core) → Acts c d (hand got) a.given b.given → Steps c d [] a b
+  steps_hand d acts = steps_by c (hand got) [] a b refl refl refl hands failures d acts
+
+  pub stops_hand : HaltsAt c (hand got) a.given b.given → Stops c [] a b
+  stops_hand halts = stops_by c (hand got) [] a b refl refl refl hands failures halts
+
+-- nothing happened
+pub steps_none : (c d : Core) (now : Told) → ((order : List Event) → StandsFor c order → StandsFor d order) → Steps c d [] now now
+steps_none c d now keeps = record { events = []; stands = keeps; takes = refl; unended = refl; tells = tells_nothing now }
+
+pub stops_here : (c : Core) (now : Told) → Stops c [] now now
+stops_here c now =
+    record { events = []; lawful = λ order stands. stood_lawful c order stands; takes = refl; unended = refl; tail = []; tells = tells_nothing now; cut = λ some. absurd (some refl) }
+
+-- what the core keeps of an order it kept before
+module _ (b c : Core) (bodies : List (List ℕ)) (old new : Told) (keeps : (order : List Event) → StandsFor b order → StandsFor c order) where
+  pub steps_kept : (d : Core) → Steps c d bodies old new → Steps b d bodies old new
+  steps_kept d steps =
+      record { events = steps.events; stands = λ order stands. steps.stands order (keeps order stands); takes = steps.takes; unended = steps.unended; tells = steps.tells }
+
+  pub stops_kept : Stops c bodies old new → Stops b bodies old new
+  stops_kept stops =
+      record { events = stops.events; lawful = λ order stands. stops.lawful order (keeps order stands); takes = stops.takes; unended = stops.unended; tail = stops.tail; tells = stops.tells; cut = stops.cut }
+
+-- steps, and others that take no body
+module _ (b c : Core) (bodies : List (List ℕ)) (x y z : Told) (so : Steps b c bodies x y) where
+  joined_takes : (later : List Event) → takes_of later ≡ [] → takes_of (later ++ so.events) ≡ bodies
+  joined_takes later none = takes_of-append later so.events ∙ (ap (λ more. takes_of so.events ++ more) none ∙ (append-nil (takes_of so.events) ∙ so.takes))
+
+  pub steps_then : (d : Core) → Steps c d [] y z → Steps b d bodies x z
+  steps_then d next =
+      record {
+        events = next.events ++ so.events;
+        stands = λ order stands. subst (λ behind. StandsFor d behind) (sym (append_assoc next.events so.events order)) (next.stands (so.events ++ order) (so.stands order stands));
+        takes = joined_takes next.events next.takes;
+        unended = end_of-append next.events so.events next.unended ∙ so.unended;
+        tells = tells_append so.events next.events [] x y z so.tells next.tells;
+      }
+
+  pub stops_then : Stops c [] y z → Stops b bodies x z
+  stops_then next =
+      record {
+        events = next.events ++ so.events;
+        lawful = λ order stands. subst (λ behind. Lawful behind) (sym (append_assoc next.events so.events order)) (next.lawful (so.events ++ order) (so.stands order stands));
+        takes = joined_takes next.events next.takes;
+        unended = end_of-append next.events so.events next.unended ∙ so.unended;
+        tail = next.tail;
+        tells = tells_append so.events next.events next.tail x y z so.tells next.tells;
+        cut = next.cut;
+      }

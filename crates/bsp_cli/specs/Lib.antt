@@ -3,5 +3,6 @@ pub mod Words
 pub mod Notes
 pub mod Session
 pub mod Served
+pub mod Outside
 pub mod Writing
 pub mod Progress

@@ -1,19 +1,20 @@
 -- How far a session has come.
-use Rattle.std.specs.Prelude.{◌≡◌, ◌≢◌, ◌⊎◌, ◌+◌, ◌++◌, ◌<◌, ℕ, List, [], length, flat_map, Option, None}
+use Rattle.std.specs.Prelude.{◌≡◌, ◌≢◌, ◌⊎◌, ◌+◌, ◌++◌, ◌<◌, ℕ, List, [], length, Option, None}
 use Rattle.bsp_edge.specs.Faults.{Rose}
-use Rattle.bsp_edge.specs.Streams.{Takes, Gives, IsDry}
+use Rattle.bsp_edge.specs.Streams.{Takes, IsDry}
 use Rattle.rpc_frame.specs.Frames.{FramesTo, HasNoFrame, IsSound, Waiting}
 use Rattle.rpc_frame.specs.declared.TheConstants.{STREAM_LIMIT}
 use Rattle.rpc_frame.specs.declared.damage.Damage.{Damage}
 use Rattle.rpc_frame.specs.declared.damage.DamageKind.TheVariants.{Truncated}
 use Rattle.rpc_frame.specs.Damages.{HasDamage}
 use Rattle.session_law.specs.declared.InputEnd.{InputEnd}
-use Rattle.session_law.specs.Lawful.{Lawful, text_of}
-use Rattle.session_law.specs.Order.{Event, ends, takes_of, writes_of, end_of}
+use Rattle.session_law.specs.Lawful.{Lawful}
+use Rattle.session_law.specs.Order.{Event, ends, takes_of, end_of}
 use Rattle.session_law.specs.Past.{end_status}
-use Rattle.session_core.specs.Standing.{StandsFor, IsQuiet, IsAlive, status_of}
+use Rattle.session_core.specs.Standing.{StandsFor, IsQuiet, IsFree, IsAlive, status_of}
 use Rattle.session_core.specs.declared.session.Core.{Core}
 use Rattle.bsp_cli.specs.Session.{Change, IsCut}
+use Rattle.bsp_cli.specs.Outside.{Told, Tells}
 use Rattle.bsp_cli.specs.Writing.{Acts, HaltsAt, status_of_stop}
 use Rattle.bsp_cli.specs.declared.serve.Ending.{Ending}
 use Rattle.bsp_cli.specs.declared.serve.Ending.TheVariants.{Border, Damaged, Failed}
@@ -22,6 +23,7 @@ use Rattle.bsp_cli.specs.declared.stop.Stop.{Stop}
 -- the core may be given the next event
 pub record IsReady (core : Core) : Type 0 where
   pub quiet : IsQuiet core
+  pub free : IsFree core
   pub alive : IsAlive core
   pub running : status_of core ≡ None
 
@@ -29,9 +31,9 @@ pub record IsReady (core : Core) : Type 0 where
 abbrev pub fed : Waiting → ℕ
 fed stream = stream.given_end + length stream.bytes
 
--- The bytes read so far are the frames that the core took and then those that wait, and the bytes
--- written so far are the core's writes.
-pub record Progress (core : Core) (stream : Waiting) (left0 left given0 given : Option (List ℕ)) : Type 0 where
+-- The bytes read so far are the frames that the core took and then those that wait, and what the tree
+-- handed out and the bytes written so far are the core's hands and writes.
+pub record Progress (core : Core) (stream : Waiting) (left0 left : Option (List ℕ)) (start now : Told) : Type 0 where
   pub order : List Event
   pub stands : StandsFor core order
   pub unended : end_of order ≡ None
@@ -39,10 +41,10 @@ pub record Progress (core : Core) (stream : Waiting) (left0 left given0 given : 
   pub consumed : Takes left0 left read
   pub frames : FramesTo read (takes_of order) stream.bytes
   pub count : length read ≡ fed stream
-  pub put : Gives given0 given (flat_map text_of (writes_of order))
+  pub tells : Tells order [] start now
 
 -- the same, once the session had to stop before an end of its input
-pub record Stopped (given_end : ℕ) (left0 left given0 given : Option (List ℕ)) : Type 0 where
+pub record Stopped (given_end : ℕ) (left0 left : Option (List ℕ)) (start now : Told) : Type 0 where
   pub order : List Event
   pub lawful : Lawful order
   pub unended : end_of order ≡ None
@@ -52,7 +54,7 @@ pub record Stopped (given_end : ℕ) (left0 left given0 given : Option (List ℕ
   pub frames : FramesTo read (takes_of order) waiting
   pub count : length read ≡ given_end + length waiting
   pub tail : List ℕ
-  pub put : Gives given0 given (flat_map text_of (writes_of order) ++ tail)
+  pub tells : Tells order tail start now
   pub cut : tail ≢ [] → IsCut tail
 
 -- ---- the next piece
@@ -100,6 +102,7 @@ pub record MayGoOn (core : Core) (stream : Waiting) (fed_before faults_old fault
 -- the core took an exit, and owes nothing more
 pub record HasEnded (core : Core) (status : Option ℕ) : Type 0 where
   pub quiet : IsQuiet core
+  pub free : IsFree core
   pub alive : IsAlive core
   pub status_is : status_of core ≡ status
 

@@ -1,7 +1,9 @@
--- What `serve` does to its input and its output, whatever they are: the bytes taken and the bytes
--- written are the takes and the writes of one lawful order, and the status agrees with it.
-use Rattle.std.specs.Prelude.{◌≡◌, ◌≢◌, ◌⊎◌, ◌++◌, ◌≤◌, ◌<◌, ℕ, List, [], length, take, flat_map, Option, Some, None}
+-- What `serve` does to its input, its tree and its output, whatever they are: the bytes taken, what the
+-- tree handed out and the bytes written are the takes, the hands and the writes of one lawful order, and
+-- the status agrees with it.
+use Rattle.std.specs.Prelude.{◌≡◌, ◌≢◌, ◌⊎◌, ◌+◌, ◌-◌, ◌^◌, ◌++◌, ◌≤◌, ◌<◌, ℕ, List, [], length, take, flat_map, Option, Some, None}
 use Rattle.bsp_edge.specs.Faults.{Rose}
+use Rattle.bsp_edge.specs.Handing.{Entries, Hands}
 use Rattle.bsp_edge.specs.Streams.{Takes, Gives, IsDry}
 use Rattle.rpc_frame.specs.Frames.{Frames, IsBroken, IsSound}
 use Rattle.rpc_frame.specs.declared.TheConstants.{STREAM_LIMIT}
@@ -12,7 +14,7 @@ use Rattle.rpc_peer.specs.Said.{Said}
 use Rattle.session_law.specs.declared.InputEnd.{InputEnd}
 use Rattle.session_law.specs.declared.InputEnd.TheVariants.{Border, Damaged, Failed}
 use Rattle.session_law.specs.Lawful.{Lawful, IsFramed, IsSettled, text_of}
-use Rattle.session_law.specs.Order.{Event, takes_of, writes_of, end_of}
+use Rattle.session_law.specs.Order.{Event, takes_of, writes_of, hands_of, failures_of, end_of}
 use Rattle.session_law.specs.Past.{status_after}
 
 -- what one source or sink told before a call and behind it
@@ -21,6 +23,20 @@ pub record Change : Type 0 where
   pub new : Option (List ℕ)
   pub faults_old : ℕ
   pub faults_new : ℕ
+
+-- what one tree told before a call and behind it: the snapshots handed out, and the faults
+pub record TreeChange : Type 0 where
+  pub old : Option (List Entries)
+  pub new : Option (List Entries)
+  pub faults_old : ℕ
+  pub faults_new : ℕ
+
+-- A count of faults went up by no less than these failures, unless it stands at its last value, and it
+-- is the same where there were none.
+pub record RoseBy (failures before after : ℕ) : Type 0 where
+  pub rises : before ≤ after
+  pub by_all : after < 2 ^ 64 - 1 → before + failures ≤ after
+  pub by_none : failures ≡ 0 → after ≡ before
 
 -- a proper front of one message of the server
 pub record IsCut (bytes : List ℕ) : Type 0 where
@@ -60,7 +76,7 @@ abbrev pub Counts : Option InputEnd → ℕ → List ℕ → List ℕ → Type 0
 Counts None taken read rest = rest ≡ []
 Counts (Some how) taken read rest = taken ≡ length read
 
-pub record Session (input output : Change) (status taken : ℕ) (damage : Option Damage) : Type 0 where
+pub record Session (input : Change) (tree : TreeChange) (output : Change) (status taken : ℕ) (damage : Option Damage) : Type 0 where
   -- the one order
   pub order : List Event
   pub lawful : Lawful order
@@ -72,6 +88,9 @@ pub record Session (input output : Change) (status taken : ℕ) (damage : Option
   pub frames : Frames (take taken read) (takes_of order) rest
   pub counts : Counts (end_of order) taken read rest
   pub ends_for : EndsFor (end_of order) damage input read rest
+  -- its hands are what the tree handed out, and its failures are among the tree's faults
+  pub hands : Hands tree.old tree.new (hands_of order)
+  pub failures : RoseBy (failures_of order) tree.faults_old tree.faults_new
   -- its writes are the bytes written, and at most a proper front of one message more
   pub tail : List ℕ
   pub put : Gives output.old output.new (flat_map text_of (writes_of order) ++ tail)

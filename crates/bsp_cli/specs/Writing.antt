@@ -1,11 +1,12 @@
 -- What is written on the way of a session.
-use Rattle.std.specs.Prelude.{◌≡◌, ◌≢◌, ◌++◌, ◌<◌, ℕ, List, [], ◌∷◌, length, flat_map, Option, Result, Ok, Err}
+use Rattle.std.specs.Prelude.{◌≡◌, ◌≢◌, ◌++◌, ◌<◌, ℕ, List, [], ◌∷◌, length, flat_map, Option, None, Result, Ok, Err}
 use Rattle.bsp_edge.specs.Streams.{Gives}
 use Rattle.rpc_peer.specs.Said.{Said}
 use Rattle.session_law.specs.Lawful.{Lawful, text_of}
-use Rattle.session_law.specs.Order.{Event}
+use Rattle.session_law.specs.Order.{Event, takes_of, end_of}
 use Rattle.session_core.specs.Standing.{StandsFor, onto}
 use Rattle.session_core.specs.declared.session.Core.{Core}
+use Rattle.bsp_cli.specs.Outside.{Told, Tells}
 use Rattle.bsp_cli.specs.Session.{IsCut}
 use Rattle.bsp_cli.specs.declared.stop.Stop.{Stop}
 use Rattle.bsp_cli.specs.declared.stop.Stop.TheVariants.{Sink, NoMemory}
@@ -55,6 +56,24 @@ pub record HaltsAt (c : Core) (event : Event) (old new : Option (List ℕ)) : Ty
   pub tail : List ℕ
   pub lawful : (order : List Event) → StandsFor c order → Lawful (onto messages (event ∷ order))
   pub put : Gives old new (flat_map text_of messages ++ tail)
+  pub cut : tail ≢ [] → IsCut tail
+
+-- the core went from one state to the next by these events, the newest first, and took these bodies
+pub record Steps (c d : Core) (bodies : List (List ℕ)) (old new : Told) : Type 0 where
+  pub events : List Event
+  pub stands : (order : List Event) → StandsFor c order → StandsFor d (events ++ order)
+  pub takes : takes_of events ≡ bodies
+  pub unended : end_of events ≡ None
+  pub tells : Tells events [] old new
+
+-- the core went on by these events, and wrote at most a proper front of the next message, when it had to stop
+pub record Stops (c : Core) (bodies : List (List ℕ)) (old new : Told) : Type 0 where
+  pub events : List Event
+  pub lawful : (order : List Event) → StandsFor c order → Lawful (events ++ order)
+  pub takes : takes_of events ≡ bodies
+  pub unended : end_of events ≡ None
+  pub tail : List ℕ
+  pub tells : Tells events tail old new
   pub cut : tail ≢ [] → IsCut tail
 
 -- what a message became that was sent: given whole, or in part where the sink failed, or not at all

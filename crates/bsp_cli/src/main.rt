@@ -1,6 +1,7 @@
 //! The program `oberon-bsp`: its top call over any input and output, and the real ones.
 #![tactic(auto)]
 
+mod acting;
 mod notes;
 mod run;
 mod serve;
@@ -9,8 +10,11 @@ mod words;
 mod writing;
 
 use crate::run::run_words;
-use bsp_edge::{RealSink, StdinSource};
+use crate::serve::Ended;
+use crate::words::{Command, Usage, read_words};
+use bsp_edge::{FolderTree, RealSink, StdinSource};
 use ob_text::{NoMemory, Text};
+use std::alloc::Global;
 use std::env;
 use std::process::ExitCode;
 use std::rt::Env;
@@ -19,21 +23,35 @@ use std::rt::Env;
 mod tests;
 
 fn main(rt: HostRuntime) -> ExitCode {
+    match run_program(rt) {
+        Ok(ended) => ExitCode::from(ended.status),
+        Err(NoMemory) => ExitCode::from(5),
+    }
+}
+
+fn run_program(rt: HostRuntime) -> Result<Ended, NoMemory> {
+    let alloc = rt.alloc();
+    let words = program_words(&rt)?;
+    let folder = folder_of(alloc, words.as_slice())?;
     let mut input = StdinSource::new(rt);
+    let mut tree = FolderTree::new(rt, alloc, folder);
     let mut output = RealSink::output(rt);
     let mut notes = RealSink::notes(rt);
-    match program_words(&rt) {
-        Ok(words) => {
-            let ended = run_words(
-                rt.alloc(),
-                words.as_slice(),
-                &mut input,
-                &mut output,
-                &mut notes,
-            );
-            ExitCode::from(ended.status)
-        }
-        Err(NoMemory) => ExitCode::from(5),
+    Ok(run_words(
+        alloc,
+        words.as_slice(),
+        &mut input,
+        &mut tree,
+        &mut output,
+        &mut notes,
+    ))
+}
+
+// The folder that the words name, or the current one where they name none.
+fn folder_of(alloc: Global, words: &[Text]) -> Result<Text, NoMemory> {
+    match read_words(words) {
+        Ok(Command::Serve { folder }) => folder.copy(alloc),
+        Err(Usage) => Text::new(alloc, b"."),
     }
 }
 

@@ -8,7 +8,7 @@ use crate::notes::write_note;
 use crate::serve::{Ended, serve};
 use crate::words::{Command, Usage, read_words};
 use crate::writing::SinkFailed;
-use bsp_edge::{Sink, Source};
+use bsp_edge::{Sink, Source, Tree};
 use ob_text::Text;
 use rpc_frame::Damage;
 use std::alloc::Global;
@@ -23,21 +23,28 @@ const SINK: u8 = 4;
 /// a shutdown that was answered, 1 where it exits or its input ends without one, 2 where its input
 /// is damaged or ends inside a frame, 3 where reading failed, 4 where writing failed, 5 where there
 /// was no memory, and 6 where the words aren't known.
-pub fn run_words<S: Source, K: Sink>(
+pub fn run_words<S: Source, T: Tree, K: Sink>(
     alloc: Global,
     words: &[Text],
     input: &mut S,
+    tree: &mut T,
     output: &mut K,
     notes: &mut K,
 ) -> Ended
-    // The bytes taken and the bytes written are the takes and the writes of one lawful order, and
-    // the notes tell the damage that ended it.
+    // The bytes taken, what the tree handed out and the bytes written are the takes, the hands and
+    // the writes of one lawful order, and the notes tell the damage that ended it.
     ensures session { (folder : List ℕ) → ServesFolder words.now folder → Served
         (record {
           old = S.left input.old;
           new = S.left input.new;
           faults_old = S.faults input.old;
           faults_new = S.faults input.new;
+        })
+        (record {
+          old = T.handed tree.old;
+          new = T.handed tree.new;
+          faults_old = T.faults tree.old;
+          faults_new = T.faults tree.new;
         })
         (record {
           old = K.given output.old;
@@ -53,13 +60,19 @@ pub fn run_words<S: Source, K: Sink>(
         })
         result.status result.taken }
 
-    // Other words read and write nothing.
+    // Other words read nothing, ask the tree nothing and write nothing.
     ensures idle { AskNothing words.now → Idle
         (record {
           old = S.left input.old;
           new = S.left input.new;
           faults_old = S.faults input.old;
           faults_new = S.faults input.new;
+        })
+        (record {
+          old = T.handed tree.old;
+          new = T.handed tree.new;
+          faults_old = T.faults tree.old;
+          faults_new = T.faults tree.new;
         })
         (record {
           old = K.given output.old;
@@ -84,7 +97,7 @@ pub fn run_words<S: Source, K: Sink>(
 {
     match read_words(words) {
         Ok(Command::Serve { folder: _ }) => {
-            let served = serve(alloc, input, output);
+            let served = serve(alloc, input, tree, output);
             note(notes, served.ended, served.damage)
         }
         Err(Usage) => note(

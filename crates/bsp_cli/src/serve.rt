@@ -4,17 +4,17 @@ ghost use Rattle.rpc_frame.specs.declared.damage.Damage.{Damage};
 ghost use Rattle.rpc_frame.specs.Damages.{HasDamage};
 ghost use Rattle.rpc_frame.specs.Frames.{HasNoFrame, IsSound};
 ghost use Rattle.session_law.specs.declared.InputEnd.{InputEnd};
-ghost use Rattle.session_law.specs.Order.{Event, take, ends};
+ghost use Rattle.session_law.specs.Order.{Event};
 ghost use Rattle.session_law.specs.Past.{end_status};
-ghost use Rattle.session_core.specs.Standing.{StandsFor, IsAlive, IsQuiet, status_of};
+ghost use Rattle.session_core.specs.Standing.{StandsFor, IsAlive, IsFree, IsQuiet, status_of};
 ghost use Rattle.bsp_cli.specs.Progress.{EndsBy, Feeds, Finishes, HasEnded, IsOut, IsReady, Loses, MayEnd, MayGoOn, Progress, Stopped, fed};
-ghost use Rattle.bsp_cli.specs.Session.{Change, Session};
+ghost use Rattle.bsp_cli.specs.Session.{Change, TreeChange, Session};
 ghost use Rattle.bsp_cli.specs.declared.serve.Ending.{Ending};
-ghost use Rattle.bsp_cli.specs.Writing.{Acts, HaltsAt};
+ghost use Rattle.bsp_cli.specs.Outside.{Told, told};
 
+use crate::acting::{act, act_on_end};
 use crate::stop::Stop;
-use crate::writing::flush;
-use bsp_edge::{Got, Sink, Source};
+use bsp_edge::{Got, Sink, Source, Tree};
 use ob_text::NoMemory;
 use rpc_frame::{Damage, DamageKind, Decoder, FeedFault, STREAM_LIMIT};
 use session_core::Core;
@@ -92,79 +92,30 @@ enum Fetched {
     End(Ending),
 }
 
-/// Acts on one body, and writes the answers. Answers the status that the session ended with, where
-/// it took an exit.
-fn act<K: Sink>(
-    alloc: Global,
-    core: &mut Core,
-    body: &[u8],
-    output: &mut K,
-    frame: &mut Vec<u8>,
-) -> Result<Option<u8>, Stop>
-    requires ready { IsReady core.old }
-    requires stood { (order : List Event) × StandsFor core.old order }
-    ensures acts { OnOk result (Acts core.old core.new (take body.now)
-        (K.given output.old) (K.given output.new)) }
-    ensures quiet { OnOk result (IsQuiet core.new) }
-    ensures alive { OnOk result (IsAlive core.new) }
-    ensures status { IfOk result (λ status. status_of core.new ≡ status) }
-    ensures halts { OnErr result (HaltsAt core.old (take body.now)
-        (K.given output.old) (K.given output.new)) }
-    ensures sink { IsErrOf result Stop.Sink → Rose (K.faults output.old) (K.faults output.new) }
-    ensures same { (IsErrOf result Stop.Sink → ⊥) → K.faults output.new ≡ K.faults output.old }
-{
-    match core.message(body) {
-        Ok(()) => match flush(alloc, core, output, frame) {
-            Ok(()) => Ok(core.exited()),
-            Err(stop) => Err(stop),
-        },
-        Err(NoMemory) => Err(Stop::NoMemory),
-    }
-}
-
-/// Acts on the end of the input, and writes the answer.
-fn act_on_end<K: Sink>(
-    alloc: Global,
-    core: &mut Core,
-    how: InputEnd,
-    output: &mut K,
-    frame: &mut Vec<u8>,
-) -> Result<(), Stop>
-    requires ready { IsReady core.old }
-    requires stood { (order : List Event) × StandsFor core.old order }
-    ensures acts { OnOk result (Acts core.old core.new (ends how)
-        (K.given output.old) (K.given output.new)) }
-    ensures quiet { OnOk result (IsQuiet core.new) }
-    ensures alive { OnOk result (IsAlive core.new) }
-    ensures halts { OnErr result (HaltsAt core.old (ends how)
-        (K.given output.old) (K.given output.new)) }
-    ensures sink { IsErrOf result Stop.Sink → Rose (K.faults output.old) (K.faults output.new) }
-    ensures same { (IsErrOf result Stop.Sink → ⊥) → K.faults output.new ≡ K.faults output.old }
-{
-    match core.end(how) {
-        Ok(()) => flush(alloc, core, output, frame),
-        Err(NoMemory) => Err(Stop::NoMemory),
-    }
-}
-
 /// Acts on all whole frames that the decoder has, and writes the answers. Answers the status that
 /// the session ended with, where it took an exit.
-fn act_on_frames<K: Sink>(
+fn act_on_frames<T: Tree, K: Sink>(
     alloc: Global,
     core: &mut Core,
     decoder: &mut Decoder,
+    tree: &mut T,
     output: &mut K,
     frame: &mut Vec<u8>,
 ) -> Result<Option<u8>, Stop>
     requires ready { IsReady core.old }
     requires stood { (order : List Event) × StandsFor core.old order }
-    ensures progress { OnOk result ((left0 left given0 : Option (List ℕ))
-        → Progress core.old decoder.old left0 left given0 (K.given output.old)
-        → Progress core.new decoder.new left0 left given0 (K.given output.new)) }
-    ensures stopped { OnErr result ((left0 left given0 : Option (List ℕ))
-        → Progress core.old decoder.old left0 left given0 (K.given output.old)
-        → Stopped decoder.new.given_end left0 left given0 (K.given output.new)) }
+    ensures progress { OnOk result ((left0 left : Option (List ℕ)) (start : Told)
+        → Progress core.old decoder.old left0 left start
+            (told (K.given output.old) (T.handed tree.old) (T.faults tree.old))
+        → Progress core.new decoder.new left0 left start
+            (told (K.given output.new) (T.handed tree.new) (T.faults tree.new))) }
+    ensures stopped { OnErr result ((left0 left : Option (List ℕ)) (start : Told)
+        → Progress core.old decoder.old left0 left start
+            (told (K.given output.old) (T.handed tree.old) (T.faults tree.old))
+        → Stopped decoder.new.given_end left0 left start
+            (told (K.given output.new) (T.handed tree.new) (T.faults tree.new))) }
     ensures quiet { OnOk result (IsQuiet core.new) }
+    ensures free { OnOk result (IsFree core.new) }
     ensures alive { OnOk result (IsAlive core.new) }
     ensures status { IfOk result (λ status. status_of core.new ≡ status) }
     ensures stood { OnOk result ((order : List Event) × StandsFor core.new order) }
@@ -182,7 +133,7 @@ fn act_on_frames<K: Sink>(
             Ok(None) => return Ok(None),
             Err(NoMemory) => return Err(Stop::NoMemory),
         };
-        match act(alloc, core, body.as_slice(), output, frame) {
+        match act(alloc, core, body.as_slice(), tree, output, frame) {
             Ok(None) => {}
             Ok(Some(status)) => return Ok(Some(status)),
             Err(stop) => return Err(stop),
@@ -258,13 +209,14 @@ fn end_of(decoder: &Decoder, total: u64) -> Ending
 }
 
 /// One turn of the loop: reads a piece, acts on the frames that are whole now, and writes the answers.
-fn take_turn<S: Source, K: Sink>(
+fn take_turn<S: Source, T: Tree, K: Sink>(
     alloc: Global,
     core: &mut Core,
     decoder: &mut Decoder,
     total: &mut u64,
     into: &mut [u8],
     input: &mut S,
+    tree: &mut T,
     output: &mut K,
     frame: &mut Vec<u8>,
 ) -> Result<Turn, Stop>
@@ -275,12 +227,16 @@ fn take_turn<S: Source, K: Sink>(
     requires limit { fed decoder.old + length into.old ≤ STREAM_LIMIT }
     requires drained { HasNoFrame decoder.old.bytes }
     requires sound { IsSound decoder.old.bytes }
-    ensures progress { OnOk result ((left0 given0 : Option (List ℕ))
-        → Progress core.old decoder.old left0 (S.left input.old) given0 (K.given output.old)
-        → Progress core.new decoder.new left0 (S.left input.new) given0 (K.given output.new)) }
-    ensures stopped { OnErr result ((left0 given0 : Option (List ℕ))
-        → Progress core.old decoder.old left0 (S.left input.old) given0 (K.given output.old)
-        → Stopped decoder.new.given_end left0 (S.left input.new) given0 (K.given output.new)) }
+    ensures progress { OnOk result ((left0 : Option (List ℕ)) (start : Told)
+        → Progress core.old decoder.old left0 (S.left input.old) start
+            (told (K.given output.old) (T.handed tree.old) (T.faults tree.old))
+        → Progress core.new decoder.new left0 (S.left input.new) start
+            (told (K.given output.new) (T.handed tree.new) (T.faults tree.new))) }
+    ensures stopped { OnErr result ((left0 : Option (List ℕ)) (start : Told)
+        → Progress core.old decoder.old left0 (S.left input.old) start
+            (told (K.given output.old) (T.handed tree.old) (T.faults tree.old))
+        → Stopped decoder.new.given_end left0 (S.left input.new) start
+            (told (K.given output.new) (T.handed tree.new) (T.faults tree.new))) }
     ensures goes_on { result ≡ Ok Turn.GoesOn → MayGoOn core.new decoder.new (fed decoder.old)
         (S.faults input.old) (S.faults input.new) }
     ensures exits { IfOk result (λ turn. (status : ℕ) → turn ≡ Turn.Exits status
@@ -299,7 +255,7 @@ fn take_turn<S: Source, K: Sink>(
     ensures same { OnOk result (K.faults output.new ≡ K.faults output.old) }
 {
     match fetch(input, decoder, total, into) {
-        Ok(Fetched::Piece(damage)) => match act_on_frames(alloc, core, decoder, output, frame) {
+        Ok(Fetched::Piece(damage)) => match act_on_frames(alloc, core, decoder, tree, output, frame) {
             Ok(Some(status)) => Ok(Turn::Exits(status)),
             Ok(None) => match damage {
                 None => Ok(Turn::GoesOn),
@@ -343,13 +299,24 @@ fn end_status(how: InputEnd) -> u8
 }
 
 /// Serves a client until it exits, its input ends, or the session has to stop.
-pub fn serve<S: Source, K: Sink>(alloc: Global, input: &mut S, output: &mut K) -> Served
+pub fn serve<S: Source, T: Tree, K: Sink>(
+    alloc: Global,
+    input: &mut S,
+    tree: &mut T,
+    output: &mut K,
+) -> Served
     ensures session { Session
         (record {
           old = S.left input.old;
           new = S.left input.new;
           faults_old = S.faults input.old;
           faults_new = S.faults input.new;
+        })
+        (record {
+          old = T.handed tree.old;
+          new = T.handed tree.new;
+          faults_old = T.faults tree.old;
+          faults_new = T.faults tree.new;
         })
         (record {
           old = K.given output.old;
@@ -361,7 +328,7 @@ pub fn serve<S: Source, K: Sink>(alloc: Global, input: &mut S, output: &mut K) -
     ensures sink { result.ended.status ≡ 4 → Rose (K.faults output.old) (K.faults output.new) }
 {
     match vec![in alloc; 0u8; PIECE] {
-        Ok(mut buffer) => serve_with(alloc, buffer.as_mut_slice(), input, output),
+        Ok(mut buffer) => serve_with(alloc, buffer.as_mut_slice(), input, tree, output),
         Err(_) => outcome(5, 0, None),
     }
 }
@@ -375,10 +342,11 @@ fn outcome(status: u8, taken: u64, damage: Option<Damage>) -> Served
     }
 }
 
-fn serve_with<S: Source, K: Sink>(
+fn serve_with<S: Source, T: Tree, K: Sink>(
     alloc: Global,
     buffer: &mut [u8],
     input: &mut S,
+    tree: &mut T,
     output: &mut K,
 ) -> Served
     requires { 0 < length buffer.old }
@@ -388,6 +356,12 @@ fn serve_with<S: Source, K: Sink>(
           new = S.left input.new;
           faults_old = S.faults input.old;
           faults_new = S.faults input.new;
+        })
+        (record {
+          old = T.handed tree.old;
+          new = T.handed tree.new;
+          faults_old = T.faults tree.old;
+          faults_new = T.faults tree.new;
         })
         (record {
           old = K.given output.old;
@@ -419,6 +393,7 @@ fn serve_with<S: Source, K: Sink>(
             &mut total,
             into,
             input,
+            tree,
             output,
             &mut frame,
         ) {

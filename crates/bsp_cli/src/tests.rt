@@ -1,7 +1,7 @@
 use crate::run::run_words;
 use crate::serve::Ended;
-use bsp_edge::{MemSink, MemSource, Sink, Source};
-use ob_text::Text;
+use bsp_edge::{MemSink, MemSource, MemTree, Sink, Source, Tree};
+use ob_text::{Held, Items, Path, Snapshot, Text};
 use std::alloc::{AllocError, Global};
 use std::process::Abort;
 use std::test::Fail;
@@ -24,6 +24,16 @@ const PARSE_ERROR: &[u8] =
 
 const INVALID: &[u8] =
     b"Content-Length: 79\r\n\r\n{\"error\":{\"code\":-32600,\"message\":\"invalid request\"},\"id\":null,\"jsonrpc\":\"2.0\"}";
+
+const UNREADABLE: &[u8] =
+    b"Content-Length: 79\r\n\r\n{\"error\":{\"code\":-32603,\"message\":\"sources unreadable\"},\"id\":1,\"jsonrpc\":\"2.0\"}";
+
+const UNKNOWN_INITIALIZE: &[u8] =
+    b"Content-Length: 77\r\n\r\n{\"error\":{\"code\":-32601,\"message\":\"method not found\"},\"id\":1,\"jsonrpc\":\"2.0\"}";
+
+const WORKSPACE_FILE: &[u8] = b"oberon-build.json";
+
+const WORKSPACE: &[u8] = b"{\"version\":1,\"targets\":[]}";
 
 /// What a run left: how it ended, and what its sinks hold.
 #[derive(Drop)]
@@ -49,25 +59,53 @@ fn texts(alloc: Global, words: &[&[u8]]) -> Result<Vec<Text>, Fail> {
     Ok(texts)
 }
 
-fn run<S: Source, K: Sink>(
+/// A source of these bytes in one piece, which doesn't fail.
+fn source(alloc: Global, bytes: Vec<u8>) -> MemSource {
+    MemSource::new(bytes, Vec::new(alloc), Vec::new(alloc), Vec::new(alloc))
+}
+
+fn file(alloc: Global, path: &[u8], text: &[u8]) -> Result<(Path, Held), Fail> {
+    Ok((Path::new(alloc, path)?, Held::Text(Text::new(alloc, text)?)))
+}
+
+/// A tree with the workspace file, whose calls with these ordinals fail.
+fn workspace(alloc: Global, failing: Vec<u64>) -> Result<MemTree, Fail> {
+    let mut files = Vec::new(alloc);
+    files.push(file(alloc, WORKSPACE_FILE, WORKSPACE)?)?;
+    let files = Snapshot {
+        entries: Items::from_vec(files),
+    };
+    Ok(MemTree::new(alloc, files, Vec::new(alloc), failing))
+}
+
+fn run<S: Source, T: Tree, K: Sink>(
     alloc: Global,
     input: &mut S,
+    tree: &mut T,
     output: &mut K,
     notes: &mut K,
 ) -> Result<Ended, Fail> {
     let words = texts(alloc, &[b"serve", b"w"])?;
-    Ok(run_words(alloc, words.as_slice(), input, output, notes))
+    Ok(run_words(
+        alloc,
+        words.as_slice(),
+        input,
+        tree,
+        output,
+        notes,
+    ))
 }
 
 fn run_from(
     alloc: Global,
     input: &mut MemSource,
+    tree: &mut MemTree,
     failing: Vec<u64>,
     failing_notes: Vec<u64>,
 ) -> Result<Left, Fail> {
     let mut output = MemSink::new(alloc, 65_536, failing)?;
     let mut notes = MemSink::new(alloc, 65_536, failing_notes)?;
-    let ended = run(alloc, input, &mut output, &mut notes)?;
+    let ended = run(alloc, input, tree, &mut output, &mut notes)?;
     let output = output.given().to_vec(alloc)?;
     let notes = notes.given().to_vec(alloc)?;
     Ok(Left {
@@ -79,7 +117,14 @@ fn run_from(
 
 fn run_on(alloc: Global, bytes: Vec<u8>, cuts: Vec<u64>) -> Result<Left, Fail> {
     let mut input = MemSource::new(bytes, cuts, Vec::new(alloc), Vec::new(alloc));
-    run_from(alloc, &mut input, Vec::new(alloc), Vec::new(alloc))
+    let mut tree = workspace(alloc, Vec::new(alloc))?;
+    run_from(
+        alloc,
+        &mut input,
+        &mut tree,
+        Vec::new(alloc),
+        Vec::new(alloc),
+    )
 }
 
 fn expect_left(rt: &impl Abort, left: &Left, status: u8, taken: u64, output: &[u8], notes: &[u8]) {
@@ -211,7 +256,14 @@ fn source_fails_at_each_call(rt: HostRuntime) -> Result<(), Fail> {
         let session = joined(alloc, &[INITIALIZE, SHUTDOWN, EXIT])?;
         let cuts = vec![in alloc; 203u64, 275]?;
         let mut input = MemSource::new(session, cuts, Vec::new(alloc), vec![in alloc; call]?);
-        let left = run_from(alloc, &mut input, Vec::new(alloc), Vec::new(alloc))?;
+        let mut tree = workspace(alloc, Vec::new(alloc))?;
+        let left = run_from(
+            alloc,
+            &mut input,
+            &mut tree,
+            Vec::new(alloc),
+            Vec::new(alloc),
+        )?;
         match call {
             1 => expect_left(&rt, &left, 3, 0, b"", b"input failed\n"),
             2 => expect_left(&rt, &left, 3, 203, INITIALIZED, b"input failed\n"),
@@ -239,8 +291,14 @@ fn sink_fails_at_each_write(rt: HostRuntime) -> Result<(), Fail> {
     ];
     for (write, status, taken, answers) in cases {
         let session = joined(alloc, &[INITIALIZE, SHUTDOWN, EXIT])?;
-        let mut input = MemSource::new(session, Vec::new(alloc), Vec::new(alloc), Vec::new(alloc));
-        let left = run_from(alloc, &mut input, vec![in alloc; write]?, Vec::new(alloc))?;
+        let mut tree = workspace(alloc, Vec::new(alloc))?;
+        let left = run_from(
+            alloc,
+            &mut source(alloc, session),
+            &mut tree,
+            vec![in alloc; write]?,
+            Vec::new(alloc),
+        )?;
         expect_left(
             &rt,
             &left,
@@ -250,14 +308,59 @@ fn sink_fails_at_each_write(rt: HostRuntime) -> Result<(), Fail> {
             b"",
         );
     }
-    let mut input = MemSource::new(
-        joined(alloc, &[b"x"])?,
+    let mut tree = workspace(alloc, Vec::new(alloc))?;
+    let left = run_from(
+        alloc,
+        &mut source(alloc, joined(alloc, &[b"x"])?),
+        &mut tree,
         Vec::new(alloc),
-        Vec::new(alloc),
-        Vec::new(alloc),
-    );
-    let left = run_from(alloc, &mut input, Vec::new(alloc), vec![in alloc; 1u64]?)?;
+        vec![in alloc; 1u64]?,
+    )?;
     expect_left(&rt, &left, 4, 1, PARSE_ERROR, b"");
+    Ok(())
+}
+
+#[test]
+fn tree_fails_at_each_call(rt: HostRuntime) -> Result<(), Fail> {
+    let alloc = rt.alloc();
+    let cases: [(&[u64], u8, &[&[u8]], usize); 4] = [
+        (&[], 0, &[INITIALIZED, UNKNOWN_INITIALIZE, CLOSED], 1),
+        (&[1], 0, &[UNREADABLE, INITIALIZED, CLOSED], 1),
+        (&[2], 0, &[INITIALIZED, UNKNOWN_INITIALIZE, CLOSED], 1),
+        (&[1, 2], 1, &[UNREADABLE, UNREADABLE, UNKNOWN_CLOSE], 0),
+    ];
+    for (failing, status, answers, handed) in cases {
+        let session = joined(alloc, &[INITIALIZE, INITIALIZE, SHUTDOWN, EXIT])?;
+        let mut tree = workspace(alloc, Vec::from_slice(alloc, failing)?)?;
+        let left = run_from(
+            alloc,
+            &mut source(alloc, session),
+            &mut tree,
+            Vec::new(alloc),
+            Vec::new(alloc),
+        )?;
+        let answers = joined(alloc, answers)?;
+        expect_left(&rt, &left, status, 539, answers.as_slice(), b"");
+        assert_eq!(rt; tree.handed().len(), handed);
+    }
+    Ok(())
+}
+
+#[test]
+fn tree_is_asked_for_the_workspace_file(rt: HostRuntime) -> Result<(), Fail> {
+    let alloc = rt.alloc();
+    let mut tree = workspace(alloc, Vec::new(alloc))?;
+    let left = run_from(
+        alloc,
+        &mut source(alloc, joined(alloc, &[INITIALIZE])?),
+        &mut tree,
+        Vec::new(alloc),
+        Vec::new(alloc),
+    )?;
+    expect_left(&rt, &left, 1, 203, INITIALIZED, b"");
+    let want = [file(alloc, WORKSPACE_FILE, WORKSPACE)?];
+    let handed = tree.handed().first().ok_or("nothing was handed out")?;
+    assert!(rt; handed.entries.as_slice() == want.as_slice());
     Ok(())
 }
 
@@ -277,15 +380,18 @@ fn other_words(rt: HostRuntime) -> Result<(), Fail> {
     ];
     for words in cases {
         let words = texts(alloc, words)?;
-        let mut input = MemSource::new(
-            joined(alloc, &[EXIT])?,
-            Vec::new(alloc),
-            Vec::new(alloc),
-            Vec::new(alloc),
-        );
+        let mut input = source(alloc, joined(alloc, &[EXIT])?);
+        let mut tree = workspace(alloc, Vec::new(alloc))?;
         let mut output = MemSink::new(alloc, 100, Vec::new(alloc))?;
         let mut notes = MemSink::new(alloc, 100, Vec::new(alloc))?;
-        let ended = run_words(alloc, words.as_slice(), &mut input, &mut output, &mut notes);
+        let ended = run_words(
+            alloc,
+            words.as_slice(),
+            &mut input,
+            &mut tree,
+            &mut output,
+            &mut notes,
+        );
         assert_eq!(rt;
             ended,
             Ended {
@@ -294,6 +400,7 @@ fn other_words(rt: HostRuntime) -> Result<(), Fail> {
             }
         );
         assert!(rt; output.given().is_empty());
+        assert!(rt; tree.handed().is_empty());
         assert!(rt; notes.given() == usage);
     }
     Ok(())

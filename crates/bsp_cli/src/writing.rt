@@ -4,7 +4,8 @@ ghost use Rattle.bsp_edge.specs.Streams.{Gives};
 ghost use Rattle.rpc_peer.specs.Said.{body_of, said};
 ghost use Rattle.session_law.specs.Lawful.{IsFramed, text_of};
 ghost use Rattle.session_law.specs.Order.{Event};
-ghost use Rattle.session_core.specs.Standing.{StandsFor, IsAlive, IsQuiet, status_of};
+ghost use Rattle.session_core.specs.Standing.{StandsFor, IsAlive, IsQuiet};
+ghost use Rattle.session_core.specs.State.{state_of};
 ghost use Rattle.bsp_cli.specs.Writing.{Flushes, GivesFront, Halts, Sends};
 
 use crate::stop::Stop;
@@ -78,7 +79,7 @@ pub fn flush<K: Sink>(
     ensures flushes { OnOk result (Flushes core.old core.new (K.given output.old) (K.given output.new)) }
     ensures quiet { OnOk result (IsQuiet core.new) }
     ensures alive { IsAlive core.old → IsAlive core.new }
-    ensures status { status_of core.new ≡ status_of core.old }
+    ensures state { state_of core.new ≡ state_of core.old }
     ensures halts { OnErr result (Halts core.old (K.given output.old) (K.given output.new)) }
     ensures sink { IsErrOf result Stop.Sink → Rose (K.faults output.old) (K.faults output.new) }
     ensures same { (IsErrOf result Stop.Sink → ⊥) → K.faults output.new ≡ K.faults output.old }

@@ -17,11 +17,11 @@ use Rattle.rpc_peer.specs.declared.message.Id.TheVariants.{Number, Text}
 use Rattle.rpc_peer.specs.Said.{IsId, HasText, id_data, id_limit, answered_data, error_data, version, body_of, result, failure}
 use Rattle.rpc_frame.specs.declared.TheConstants.{CONTENT_LIMIT}
 use Rattle.session_law.specs.Lawful.{IsFramed}
-use Rattle.session_law.specs.Methods.{initialize_result, null_message, method_not_found, parse_error}
-use Rattle.session_core.specs.Acting.{answer_to, verdict_of}
-use Rattle.session_core.specs.declared.verdicts.Owed.{Owed}
-use Rattle.session_core.specs.declared.verdicts.Owed.TheVariants.{Opening, Closing, Unknown}
-use Rattle.session_core.proofs.Literals.{literal_text}
+use Rattle.session_law.specs.Methods.{initialize_result, null_message, method_not_found, sources_unreadable, parse_error}
+use Rattle.session_core.specs.Acting.{answer_to}
+use Rattle.session_core.specs.declared.verdicts.Answer.{Answer}
+use Rattle.session_core.specs.declared.verdicts.Answer.TheVariants.{Opening, Closing, Unknown, Unreadable}
+use Rattle.session_core.proofs.Literals.{is_ascii, literal_text}
 
 -- ---- how long the text of a value is
 
@@ -162,21 +162,24 @@ error_short code text h short =
     let digits = number_short code h in
     omega arith
 
-unknown_message : length (members_text true (member (codes "message") (string (codes "method not found")) no_members)) ≤ 40
-unfolding serde_json_on_literals
-unknown_message = lit≤ tt
-
-unknown_short : length (compact_text (error_data method_not_found (codes "method not found"))) ≤ 100
-unknown_short = error_short method_not_found (codes "method not found") (omega (arith, ints)) unknown_message
-
-framed_unknown : (id : Id) → IsId id → IsFramed (failure (Some id) method_not_found (codes "method not found"))
-framed_unknown id h =
+-- a refusal whose message is short, and plain
+framed_refusal : (id : Id) (code : ℤ) (text : List ℕ) → IsId id → FitsSigned w64 code → is_ascii text ≡ true
+    → length (members_text true (member (codes "message") (string text) no_members)) ≤ 40 → IsFramed (failure (Some id) code text)
+framed_refusal id code text h fits plain short =
     record {
       of_server = tt;
-      texts = (id_text id h, literal_text (codes "method not found") refl);
-      exact = rw (id_exact id);
-      fits = failure_fits (Some id) method_not_found (codes "method not found") (id_short id h) unknown_short;
+      texts = (id_text id h, literal_text text plain);
+      exact = rw (id_exact id, integer_exact code);
+      fits = failure_fits (Some id) code text (id_short id h) (error_short code text fits short);
     }
+
+unknown_short : length (members_text true (member (codes "message") (string (codes "method not found")) no_members)) ≤ 40
+unfolding serde_json_on_literals
+unknown_short = lit≤ tt
+
+unreadable_short : length (members_text true (member (codes "message") (string (codes "sources unreadable")) no_members)) ≤ 40
+unfolding serde_json_on_literals
+unreadable_short = lit≤ tt
 
 pub framed_unread : (code : ℤ) → FitsSigned w64 code → IsFramed (failure None code (null_message code))
 unfolding null_message
@@ -189,7 +192,8 @@ framed_unread code h =
       fits = failure_fits None code _ (lit≤ tt) (error_short code _ h (either_short parse));
     }
 
-pub framed_answer : (id : Id) (owed : Owed) → IsId id → IsFramed (answer_to id (verdict_of owed))
+pub framed_answer : (id : Id) (answer : Answer) → IsId id → IsFramed (answer_to id answer)
 framed_answer id Opening h = framed_opening id h
 framed_answer id Closing h = framed_closing id h
-framed_answer id Unknown h = framed_unknown id h
+framed_answer id Unknown h = framed_refusal id method_not_found (codes "method not found") h (omega (arith, ints)) refl unknown_short
+framed_answer id Unreadable h = framed_refusal id sources_unreadable (codes "sources unreadable") h (omega (arith, ints)) refl unreadable_short

@@ -1,15 +1,16 @@
 -- What follows for an order that a core stands for, and for one with more messages written.
-use Rattle.std.proofs.Common.{◌≡◌, ◌++◌, ◌≤◌, ℤ, List, [], ◌∷◌, map, Bool, true, false, cond, Some, None, IfSome, Result, Ok, Err, refl, ◌∙◌, append_assoc, append-nil, sym, subst, lit≤}
+use Rattle.std.proofs.Common.{◌≡◌, ◌++◌, ◌≤◌, ℤ, List, [], ◌∷◌, map, Bool, true, false, cond, Some, None, IfSome, Result, Ok, Err, refl, ap, ◌∙◌, append_assoc, append-nil, sym, subst, lit≤}
 use Rattle.std.specs.Prelude.{codes}
 use Rattle.rpc_peer.specs.declared.message.Message.{Message}
 use Rattle.rpc_peer.specs.Meaning.{meaning}
 use Rattle.rpc_peer.specs.Said.{Said, said, request, notification, result, failure}
-use Rattle.session_law.specs.Lawful.{Lawful, EachAllowed}
-use Rattle.session_law.specs.Order.{Event, take, ends, write, takes_of, writes_of, end_of}
+use Rattle.session_law.specs.Lawful.{Lawful, EachAllowed, IsSettled}
+use Rattle.session_law.specs.Order.{Event, take, ends, hand, write, takes_of, writes_of, hands_of, failures_of, end_of}
 use Rattle.session_law.specs.declared.InputEnd.TheVariants.{Border, Damaged, Failed}
 use Rattle.session_law.specs.Methods.{is_named}
 use Rattle.session_law.specs.Past.{exit_status, closed_after, status_after}
-use Rattle.session_core.specs.Standing.{StandsFor, Keeps, Knows, IsQuiet, IsAlive, onto}
+use Rattle.session_core.specs.Standing.{StandsFor, Keeps, Knows, IsFree, IsQuiet, IsAlive, onto}
+use Rattle.session_core.specs.State.{state_of, asked_by}
 use Rattle.session_core.specs.declared.session.Core.{Core}
 
 -- what is allowed with more messages written is allowed before them
@@ -29,6 +30,14 @@ pub takes_of-onto : (messages : List Said) (order : List Event) → takes_of (on
 takes_of-onto [] order = refl
 takes_of-onto (m ∷ messages) order = takes_of-onto messages (write m ∷ order)
 
+pub hands_of-onto : (messages : List Said) (order : List Event) → hands_of (onto messages order) ≡ hands_of order
+hands_of-onto [] order = refl
+hands_of-onto (m ∷ messages) order = hands_of-onto messages (write m ∷ order)
+
+pub failures_of-onto : (messages : List Said) (order : List Event) → failures_of (onto messages order) ≡ failures_of order
+failures_of-onto [] order = refl
+failures_of-onto (m ∷ messages) order = failures_of-onto messages (write m ∷ order)
+
 pub end_of-onto : (messages : List Said) (order : List Event) → end_of (onto messages order) ≡ end_of order
 end_of-onto [] order = refl
 end_of-onto (m ∷ messages) order = end_of-onto messages (write m ∷ order)
@@ -42,10 +51,14 @@ status_after-onto [] order = refl
 status_after-onto (m ∷ messages) order = status_after-onto messages (write m ∷ order)
 
 -- what a core knows of its order that has nothing left to write and found memory
-pub known : (core : Core) (order : List Event) → IsQuiet core → IsAlive core → StandsFor core order → Knows core.opened core.closed core.status order
+pub known : (core : Core) (order : List Event) → IsQuiet core → IsAlive core → StandsFor core order → Knows (state_of core) order
 known core order quiet alive stands =
-    let keeps = subst (λ (items : List Message). Keeps core.opened core.closed core.dead core.status (onto (map said items) order)) quiet stands in
+    let keeps = subst (λ (items : List Message). Keeps core.dead (state_of core) (onto (map said items) order)) quiet stands in
     keeps.knows alive
+
+-- nothing is owed in an order of a core for which nothing waits
+pub settled : (core : Core) (order : List Event) → IsFree core → Knows (state_of core) order → IsSettled order
+settled core order free knows = record { requests = knows.requests_are ∙ ap asked_by free; nulls = knows.nulls_are }
 
 status_left : (leaves closed : Bool) → IfSome (cond leaves (Some (cond closed 0 1)) None) (λ status. status ≤ 3)
 status_left true true = lit≤ tt
@@ -66,4 +79,5 @@ status_within (take body ∷ order) = status_taken (meaning body) (closed_after 
 status_within (ends Border ∷ order) = lit≤ tt
 status_within (ends Damaged ∷ order) = lit≤ tt
 status_within (ends Failed ∷ order) = lit≤ tt
+status_within (hand handed ∷ order) = status_within order
 status_within (write m ∷ order) = status_within order

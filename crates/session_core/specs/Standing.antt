@@ -1,9 +1,13 @@
 -- Which orders a core stands for.
-use Rattle.std.specs.Prelude.{◌≡◌, ℕ, List, [], ◌∷◌, length, map, Bool, false, Option}
-use Rattle.rpc_peer.specs.Said.{Said, said}
-use Rattle.session_law.specs.Lawful.{Lawful, IsSettled}
-use Rattle.session_law.specs.Order.{Event, write}
-use Rattle.session_law.specs.Past.{opened_after, closed_after, status_after}
+use Rattle.std.specs.Prelude.{◌≡◌, ℕ, List, [], ◌∷◌, length, map, Bool, false, Option, None, Some, IfSome}
+use Rattle.ob_text.specs.declared.held.Snapshot.{Snapshot}
+use Rattle.rpc_peer.specs.Said.{Said, said, IsId}
+use Rattle.session_law.specs.Lawful.{Lawful, AreHeld}
+use Rattle.session_law.specs.Order.{Entries, Event, write}
+use Rattle.session_law.specs.Past.{Asked, wanted_by, open_after, nulls_after, opened_after, closed_after, status_after}
+use Rattle.session_core.specs.State.{State, state_of, asked_by, paths_of, handed_of}
+use Rattle.session_core.specs.declared.awaiting.Awaiting.{Awaiting}
+use Rattle.session_core.specs.declared.awaiting.Need.{Need}
 use Rattle.session_core.specs.declared.session.Core.{Core}
 
 -- the order once these messages are written too
@@ -11,26 +15,60 @@ abbrev pub onto : List Said → List Event → List Event
 onto [] order = order
 onto (m ∷ messages) order = onto messages (write m ∷ order)
 
+-- what is needed is what the open request wants
+abbrev pub NeedFits : Option Need → Option Awaiting → Type 0
+NeedFits need awaiting = IfSome need (λ n. wanted_by (asked_by awaiting) ≡ Some (paths_of n))
+
+-- the requests have ids
+abbrev pub EachId : List Asked → Type 0
+EachId [] = Unit {0}
+EachId (asked ∷ others) = IsId asked.id × EachId others
+
 -- what a core that found memory so far knows of an order
-pub record Knows (opened closed : Bool) (status : Option ℕ) (order : List Event) : Type 0 where
-  pub opened_is : opened_after order ≡ opened
-  pub closed_is : closed_after order ≡ closed
-  pub status_is : status_after order ≡ status
-  pub settled : IsSettled order
+pub record Knows (state : State) (order : List Event) : Type 0 where
+  pub opened_is : opened_after order ≡ state.opened
+  pub closed_is : closed_after order ≡ state.closed
+  pub status_is : status_after order ≡ state.status
+  pub requests_are : open_after order ≡ asked_by state.awaiting
+  pub nulls_are : nulls_after order ≡ []
+  pub ids : EachId (asked_by state.awaiting)
+  pub need_is : NeedFits state.need state.awaiting
 
 -- A core that found no memory keeps a lawful order, and promises no more of it.
-pub record Keeps (opened closed dead : Bool) (status : Option ℕ) (order : List Event) : Type 0 where
+pub record Keeps (dead : Bool) (state : State) (order : List Event) : Type 0 where
   pub lawful : Lawful order
-  pub knows : dead ≡ false → Knows opened closed status order
+  pub knows : dead ≡ false → Knows state order
 
 -- The order that the core stands for holds the messages that were written. What the core keeps is
 -- true of the order behind those that are still to be written.
 abbrev pub StandsFor : Core → List Event → Type 0
-StandsFor core order = Keeps core.opened core.closed core.dead core.status (onto (map said core.out.items) order)
+StandsFor core order = Keeps core.dead (state_of core) (onto (map said core.out.items) order)
 
 -- nothing is left to write
 abbrev pub IsQuiet : Core → Type 0
 IsQuiet core = core.out.items ≡ []
+
+-- no request waits for the tree
+abbrev pub IsFree : Core → Type 0
+IsFree core = core.awaiting ≡ None
+
+-- the tree may be asked for these paths, for the request that waits
+abbrev pub Awaits : Core → List (List ℕ) → Type 0
+Awaits core paths = wanted_by (asked_by core.awaiting) ≡ Some paths
+
+-- the tree needn't be asked
+abbrev pub NeedsNothing : Core → Type 0
+NeedsNothing core = core.need ≡ None
+
+-- where a request waits, the tree is still to be asked
+abbrev pub NeedsWhatItAwaits : Core → Type 0
+NeedsWhatItAwaits core = core.need ≡ None → core.awaiting ≡ None
+
+-- the tree was asked for the request that waits, and handed this out
+pub record Suits (core : Core) (got : Option Snapshot) : Type 0 where
+  pub paths : List (List ℕ)
+  pub awaited : Awaits core paths
+  pub held : IfSome (handed_of got) (AreHeld paths)
 
 -- the core found memory so far
 abbrev pub IsAlive : Core → Type 0

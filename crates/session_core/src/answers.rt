@@ -1,11 +1,11 @@
 ghost use Rattle.std.specs.Prelude.{◌≡◌, IfOk};
 ghost use Rattle.serde_json.specs.View.{view};
-ghost use Rattle.rpc_peer.specs.Said.{said, IsId, result as answers, failure};
+ghost use Rattle.rpc_peer.specs.Said.{said, result as answers, failure};
 ghost use Rattle.session_law.specs.Lawful.{IsFramed};
 ghost use Rattle.session_law.specs.Methods.{capabilities, initialize_result, null_message};
-ghost use Rattle.session_core.specs.Acting.{answer_to, answer_unread, verdict_of};
+ghost use Rattle.session_core.specs.Acting.{answer_to, answer_unread};
 
-use crate::verdicts::Owed;
+use crate::verdicts::Answer;
 use ob_text::{NoMemory, Text};
 use rpc_peer::{ErrorObject, Id, Message};
 use serde_json::{Value, json};
@@ -17,20 +17,21 @@ pub const PARSE_ERROR: i32 = -32700;
 /// The code of a request whose method isn't known (JSON-RPC 2.0, section 5.1).
 const METHOD_NOT_FOUND: i64 = -32601;
 
-/// The response that gives a request what it is owed.
-#[tactic(auto, using(crate::proofs::Framing::framed_answer))]
-pub fn answer(alloc: Global, id: Id, owed: Owed) -> Result<Message, NoMemory>
-    requires { IsId id }
-    ensures answer { IfOk result (λ m. said m ≡ answer_to id (verdict_of owed)) }
-    ensures framed { IsFramed (answer_to id (verdict_of owed)) }
+/// The code of a request for which the tree failed (JSON-RPC 2.0, section 5.1, an internal error).
+const INTERNAL_ERROR: i64 = -32603;
+
+/// The response that gives a request this answer.
+pub fn response(alloc: Global, id: Id, answer: Answer) -> Result<Message, NoMemory>
+    ensures { IfOk result (λ m. said m ≡ answer_to id answer) }
 {
-    match owed {
-        Owed::Opening => {
+    match answer {
+        Answer::Opening => {
             let value = initialize_value(alloc)?;
             Ok(success(id, value))
         }
-        Owed::Closing => Ok(success(id, Value::Null)),
-        Owed::Unknown => failure(alloc, Some(id), METHOD_NOT_FOUND, b"method not found"),
+        Answer::Closing => Ok(success(id, Value::Null)),
+        Answer::Unknown => failure(alloc, Some(id), METHOD_NOT_FOUND, b"method not found"),
+        Answer::Unreadable => failure(alloc, Some(id), INTERNAL_ERROR, b"sources unreadable"),
     }
 }
 

@@ -3,9 +3,11 @@
 #![tactic(auto)]
 
 mod answers;
+mod awaiting;
 mod session;
 mod verdicts;
 
+pub use awaiting::Need;
 pub use session::Core;
 
 #[cfg(test)]

@@ -1,6 +1,7 @@
-use crate::answers::{PARSE_ERROR, answer, unread_answer};
-use crate::verdicts::judge;
-use ob_text::NoMemory;
+use crate::answers::{PARSE_ERROR, response, unread_answer};
+use crate::awaiting::{Awaiting, Need, workspace_paths};
+use crate::verdicts::{Answer, Owed, judge};
+use ob_text::{NoMemory, Snapshot};
 use rpc_peer::{Id, Message, Refusal, read_message};
 use session_law::InputEnd;
 use std::alloc::Global;
@@ -8,8 +9,9 @@ use std::collections::VecDeque;
 
 const EXIT: &[u8] = b"build/exit";
 
-/// A session of the server. Its events come in by `message` and `end`, and what it writes is taken
-/// by `next_out`. Once a call found no memory, each later one answers so too.
+/// A session of the server. Its events come in by `message`, `snapshot` and `end`, what it writes is
+/// taken by `next_out`, and what it needs by `next_need`. Once a call found no memory, each later one
+/// answers so too.
 #[derive(Drop)]
 pub struct Core {
     alloc: Global,
@@ -19,6 +21,10 @@ pub struct Core {
     // A shutdown was answered with a result.
     closed: bool,
     status: Option<u8>,
+    // The request that waits for what the tree holds.
+    awaiting: Option<Awaiting>,
+    // What the tree is to be asked for it, until that is taken.
+    need: Option<Need>,
     dead: bool,
 }
 
@@ -28,14 +34,16 @@ impl Core {
     ghost use Rattle.rpc_peer.specs.Said.{said, HasId, IsId};
     ghost use Rattle.session_law.specs.Lawful.{IsFramed};
     ghost use Rattle.session_law.specs.Methods.{verdict};
-    ghost use Rattle.session_law.specs.Order.{Event, take, ends, write};
-    ghost use Rattle.session_core.specs.Acting.{Acts, Answers, AnswersUnread, Ends, Steps, status_by};
-    ghost use Rattle.session_core.specs.Standing.{StandsFor, IsQuiet, IsAlive, status_of, left_to_write};
+    ghost use Rattle.session_law.specs.Order.{Event, take, ends, hand, write};
+    ghost use Rattle.session_core.specs.Acting.{Acts, ActsOnHand, Answers, AnswersUnread, Asks, Ends, ServesAs, Steps, opening_answer, status_by};
+    ghost use Rattle.session_core.specs.Standing.{StandsFor, Awaits, Suits, IsFree, NeedsNothing, NeedsWhatItAwaits, IsQuiet, IsAlive, status_of, left_to_write};
+    ghost use Rattle.session_core.specs.State.{handed_of, paths_of, state_of};
 
     /// A session in which nothing happened yet.
     pub fn new(alloc: Global) -> Core
         ensures stands { StandsFor result [] }
         ensures quiet { IsQuiet result }
+        ensures free { IsFree result }
         ensures alive { IsAlive result }
         ensures running { status_of result ≡ None }
     {
@@ -45,6 +53,8 @@ impl Core {
             opened: false,
             closed: false,
             status: None,
+            awaiting: None,
+            need: None,
             dead: false,
         }
     }
@@ -52,9 +62,11 @@ impl Core {
     /// Acts on the body of a frame.
     pub fn message(&mut self, body: &[u8]) -> Result<(), NoMemory>
         requires quiet { IsQuiet self.old }
+        requires free { IsFree self.old }
         requires running { status_of self.old ≡ None }
         ensures stands { IsAlive self.old → (order : List Event) → StandsFor self.old order
             → StandsFor self.new (take body.now ∷ order) }
+        ensures needs { OnOk result (NeedsWhatItAwaits self.new) }
         ensures alive { OnOk result (IsAlive self.new) }
         ensures dead { OnErr result (¬ IsAlive self.new) }
     {
@@ -63,9 +75,28 @@ impl Core {
         acted
     }
 
+    /// Acts on the answer of the tree that was asked for what was needed: what it holds at these paths,
+    /// in order, or nothing where it failed.
+    pub fn snapshot(&mut self, got: Option<Snapshot>) -> Result<(), NoMemory>
+        requires quiet { IsQuiet self.old }
+        requires asked { NeedsNothing self.old }
+        requires wanted { Suits self.old got }
+        ensures stands { IsAlive self.old → (order : List Event) → StandsFor self.old order
+            → StandsFor self.new (hand (handed_of got) ∷ order) }
+        ensures free { OnOk result (IsFree self.new) }
+        ensures alive { OnOk result (IsAlive self.new) }
+        ensures dead { OnErr result (¬ IsAlive self.new) }
+        ensures status { status_of self.new ≡ status_of self.old }
+    {
+        let acted = self.act_on_hand(got);
+        self.dead = acted.is_err();
+        acted
+    }
+
     /// Acts on the end of the input.
     pub fn end(&mut self, why: InputEnd) -> Result<(), NoMemory>
         requires quiet { IsQuiet self.old }
+        requires free { IsFree self.old }
         requires running { status_of self.old ≡ None }
         ensures stands { IsAlive self.old → (order : List Event) → StandsFor self.old order
             → StandsFor self.new (ends why ∷ order) }
@@ -88,9 +119,24 @@ impl Core {
         ensures keeps { IfNone result ((order : List Event) → StandsFor self.old order
             → StandsFor self.new order) }
         ensures alive { IsAlive self.old → IsAlive self.new }
-        ensures status { status_of self.new ≡ status_of self.old }
+        ensures state { state_of self.new ≡ state_of self.old }
     {
         self.out.pop_front()
+    }
+
+    /// What the session needs from outside.
+    pub fn next_need(&mut self) -> Option<Need>
+        requires quiet { IsQuiet self.old }
+        ensures awaited { IsAlive self.old → (order : List Event) → StandsFor self.old order
+            → IfSome result (λ need. Awaits self.new (paths_of need)) }
+        ensures keeps { (order : List Event) → StandsFor self.old order → StandsFor self.new order }
+        ensures none { IfNone result (NeedsNothing self.old × (IsFree self.old → IsFree self.new)) }
+        ensures asked { NeedsNothing self.new }
+        ensures quiet { IsQuiet self.new }
+        ensures alive { IsAlive self.old → IsAlive self.new }
+        ensures status { status_of self.new ≡ status_of self.old }
+    {
+        self.need.take()
     }
 
     /// The status that the session ended with.
@@ -100,11 +146,11 @@ impl Core {
         self.status
     }
 
-    /// Whether nothing is left to write.
+    /// Whether nothing is left to write, and no request waits.
     pub fn is_idle(&self) -> bool
-        ensures { IsTrue result ↔ IsQuiet self.now }
+        ensures { IsTrue result ↔ (IsQuiet self.now × IsFree self.now) }
     {
-        self.out.is_empty()
+        self.out.is_empty() && self.awaiting.is_none()
     }
 
     fn act(&mut self, body: &[u8]) -> Result<(), NoMemory>
@@ -133,7 +179,7 @@ impl Core {
                 id,
                 method,
                 params: _,
-            } => self.answer(id, method.as_slice()),
+            } => self.serve(id, method.as_slice()),
             Message::Notification { method, params: _ } => {
                 self.heed(method.as_slice());
                 Ok(())
@@ -142,27 +188,82 @@ impl Core {
         }
     }
 
-    // Answers a request what it is owed.
-    fn answer(&mut self, id: Id, method: &[u8]) -> Result<(), NoMemory>
+    // Gives a request what it is owed, or keeps it until the tree was asked.
+    fn serve(&mut self, id: Id, method: &[u8]) -> Result<(), NoMemory>
         requires { IsId id }
-        ensures ok { OnOk result (Answers self.old self.new id
+        ensures ok { OnOk result (ServesAs self.old self.new id
             (verdict method.now self.old.opened self.old.closed)) }
         ensures alive { self.new.dead ≡ self.old.dead }
         ensures err { OnErr result (self.new.out.items ≡ self.old.out.items) }
     {
-        let owed = judge(method, self.opened, self.closed);
-        let message = answer(self.alloc, id, owed)?;
-        self.out.push_back(message)?;
-        self.opened = self.opened || owed.opens();
-        self.closed = self.closed || owed.closes();
+        match judge(method, self.opened, self.closed) {
+            Owed::Asking => self.ask(id),
+            Owed::Answer(answer) => self.answer(id, answer),
+        }
+    }
+
+    // Keeps an initialize until it has the workspace file.
+    fn ask(&mut self, id: Id) -> Result<(), NoMemory>
+        ensures ok { OnOk result (Asks self.old self.new id) }
+        ensures alive { self.new.dead ≡ self.old.dead }
+        ensures err { OnErr result (self.new.out.items ≡ self.old.out.items) }
+    {
+        let paths = workspace_paths(self.alloc)?;
+        self.awaiting = Some(Awaiting::Opening { id });
+        self.need = Some(Need::Tree(paths));
         Ok(())
+    }
+
+    // Gives a request an answer.
+    fn answer(&mut self, id: Id, answer: Answer) -> Result<(), NoMemory>
+        ensures ok { OnOk result (Answers self.old self.new id answer) }
+        ensures alive { self.new.dead ≡ self.old.dead }
+        ensures free { self.new.awaiting ≡ self.old.awaiting }
+        ensures status { self.new.status ≡ self.old.status }
+        ensures err { OnErr result (self.new.out.items ≡ self.old.out.items) }
+    {
+        let message = response(self.alloc, id, answer)?;
+        self.out.push_back(message)?;
+        self.opened = self.opened || answer.opens();
+        self.closed = self.closed || answer.closes();
+        Ok(())
+    }
+
+    fn act_on_hand(&mut self, got: Option<Snapshot>) -> Result<(), NoMemory>
+        ensures ok { OnOk result (ActsOnHand self.old self.new self.old.awaiting got) }
+        ensures found { OnOk result (IsAlive self.old) }
+        ensures free { OnOk result (self.new.awaiting ≡ None) }
+        ensures status { self.new.status ≡ self.old.status }
+        ensures err { OnErr result (self.new.out.items ≡ self.old.out.items) }
+    {
+        if self.dead {
+            return Err(NoMemory);
+        }
+        match self.awaiting.take() {
+            Some(Awaiting::Opening { id }) => self.open(id, got),
+            None => Ok(()),
+        }
+    }
+
+    // Answers the initialize that waited for the workspace file.
+    fn open(&mut self, id: Id, got: Option<Snapshot>) -> Result<(), NoMemory>
+        ensures ok { OnOk result (Answers self.old self.new id (opening_answer got)) }
+        ensures alive { self.new.dead ≡ self.old.dead }
+        ensures free { self.new.awaiting ≡ self.old.awaiting }
+        ensures status { self.new.status ≡ self.old.status }
+        ensures err { OnErr result (self.new.out.items ≡ self.old.out.items) }
+    {
+        match got {
+            Some(_) => self.answer(id, Answer::Opening),
+            None => self.answer(id, Answer::Unreadable),
+        }
     }
 
     // Acts on a notification: an exit ends the session, others are dropped.
     fn heed(&mut self, method: &[u8])
         ensures same { self.new.out.items ≡ self.old.out.items }
-        ensures steps { Steps self.old self.new self.old.opened self.old.closed
-            (status_by method.now self.old.closed self.old.status) [] }
+        ensures steps { Steps self.old self.new
+            (record (state_of self.old) { status = status_by method.now self.old.closed self.old.status }) [] }
     {
         if EXIT == method {
             self.status = Some(if self.closed { 0 } else { 1 });

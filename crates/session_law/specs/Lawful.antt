@@ -1,14 +1,16 @@
 -- The sentences that make an order lawful. Each is judged at an event, from what came before it.
-use Rattle.std.specs.Prelude.{◌≡◌, ◌≤◌, ℕ, ℤ, List, [], ◌∷◌, length, true, false, Option, Some, None}
+use Rattle.std.specs.Prelude.{◌≡◌, ◌≤◌, ℕ, ℤ, List, [], ◌∷◌, length, map, true, false, Option, Some, None, IfSome}
+use Rattle.std.specs.List.{All}
 use Rattle.serde_json.specs.Data.{Data, null}
 use Rattle.serde_json.specs.Written.{has_float}
+use Rattle.ob_text.specs.Held.{IsReadable}
 use Rattle.rpc_frame.specs.Frames.{written_frame}
 use Rattle.rpc_frame.specs.declared.TheConstants.{CONTENT_LIMIT}
 use Rattle.rpc_peer.specs.Said.{Said, request, notification, result, failure, HasTexts, said_data, body_of}
 use Rattle.session_law.specs.declared.InputEnd.{InputEnd}
 use Rattle.session_law.specs.Methods.{Verdict, opening, closing, refusal, initialize_result, null_message}
-use Rattle.session_law.specs.Order.{Event, take, ends, write}
-use Rattle.session_law.specs.Past.{Asked, is_open, owed_to, open_after, nulls_after, status_after}
+use Rattle.session_law.specs.Order.{Entries, Event, take, ends, hand, write}
+use Rattle.session_law.specs.Past.{Asked, is_open, owed_to, wanted_by, open_after, nulls_after, status_after}
 
 -- the bytes of a message on the output
 unfoldable pub text_of : Said → List ℕ
@@ -85,12 +87,26 @@ pub record TakeAllowed (past : List Event) (body : List ℕ) : Type 0 where
   pub answered : IsSettled past
   pub goes_on : status_after past ≡ None
 
+-- So is an end of the input.
 pub record EndAllowed (past : List Event) (how : InputEnd) : Type 0 where
+  pub answered : IsSettled past
   pub goes_on : status_after past ≡ None
+
+-- what was handed out is what is held at these paths, and each text is a document
+pub record AreHeld (paths : List (List ℕ)) (entries : Entries) : Type 0 where
+  pub asked : map (λ entry. entry.0) entries ≡ paths
+  pub texts : All (λ entry. IsReadable entry.1) entries
+
+-- The tree is asked for a request that wants files, once, and for just these.
+pub record HandAllowed (past : List Event) (handed : Option Entries) : Type 0 where
+  pub paths : List (List ℕ)
+  pub wanted : wanted_by (open_after past) ≡ Some paths
+  pub held : IfSome handed (AreHeld paths)
 
 abbrev pub Allowed : List Event → Event → Type 0
 Allowed past (take body) = TakeAllowed past body
 Allowed past (ends how) = EndAllowed past how
+Allowed past (hand handed) = HandAllowed past handed
 Allowed past (write m) = WriteAllowed past m
 
 abbrev pub EachAllowed : List Event → Type 0

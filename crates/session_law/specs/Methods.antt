@@ -1,5 +1,5 @@
 -- The methods of the Build Server Protocol 2.2 that the session answers, and what it answers them.
-use Rattle.std.specs.Prelude.{◌==◌, ◌&&◌, ℕ, ℤ, negsuc, List, codes, Bool, true, not, if◌then◌else◌}
+use Rattle.std.specs.Prelude.{◌==◌, ◌&&◌, ℕ, ℤ, negsuc, List, [], ◌∷◌, codes, Bool, true, not, Option, Some, None, if◌then◌else◌}
 use Rattle.std.specs.Cmp.Lexicographic.{pointwise}
 use Rattle.std.specs.Ordering.{int_eq}
 use Rattle.serde_json.specs.Data.{Data, boolean, string, array, object, item, no_items, member, no_members}
@@ -17,6 +17,9 @@ invalid_request = negsuc 32599
 
 abbrev pub method_not_found : ℤ
 method_not_found = negsuc 32600
+
+abbrev pub sources_unreadable : ℤ
+sources_unreadable = negsuc 32602
 
 -- the message beside a code that is answered with the id null
 unfoldable pub null_message : ℤ → List ℕ
@@ -46,9 +49,11 @@ initialize_result =
     (member (codes "displayName") (string (codes "oberon-bsp"))
     (member (codes "version") (string (codes "1.0.0")) no_members))))
 
--- ---- what a request is owed, judged as it is taken
+-- ---- what a request is owed, judged as it is taken and once its files were handed out
 
 pub data Verdict : Type 0 where
+  -- an initialize that wants the workspace file
+  asking : Verdict
   -- an initialize that opens the session
   opening : Verdict
   -- a shutdown that closes it
@@ -56,8 +61,23 @@ pub data Verdict : Type 0 where
   -- a refusal with this code and message
   refusal : ℤ → List ℕ → Verdict
 
+-- the path of the workspace file
+unfoldable pub workspace_path : List ℕ
+workspace_path = codes "oberon-build.json"
+
+-- the paths that a request wants
+abbrev pub paths_wanted : Verdict → Option (List (List ℕ))
+paths_wanted asking = Some (workspace_path ∷ [])
+paths_wanted opening = None
+paths_wanted closing = None
+paths_wanted (refusal code text) = None
+
+-- the request can't be served, since the tree failed
+abbrev pub unreadable : Verdict
+unreadable = refusal sources_unreadable (codes "sources unreadable")
+
 -- A session is opened once, and closed once while it is open. No other method is known.
 unfoldable pub verdict : List ℕ → Bool → Bool → Verdict
 verdict method opened closed =
-    if is_named (codes "build/initialize") method && not opened then opening
+    if is_named (codes "build/initialize") method && not opened then asking
     else (if is_named (codes "build/shutdown") method && (opened && not closed) then closing else refusal method_not_found (codes "method not found"))

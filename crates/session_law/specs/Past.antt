@@ -1,5 +1,6 @@
 -- What a session owes, has opened and has ended with, as functions of what happened in it.
 use Rattle.std.specs.Prelude.{◌==◌, ◌||◌, ℕ, ℤ, List, [], ◌∷◌, ◌++◌, codes, Bool, true, false, Option, Some, None, is_some, Result, Ok, Err, drop, if◌then◌else◌}
+use Rattle.std.specs.Option.{option_or}
 use Rattle.std.specs.Cmp.Lexicographic.{pointwise}
 use Rattle.std.specs.Ordering.{int_eq}
 use Rattle.rpc_peer.specs.declared.message.Id.{Id}
@@ -8,8 +9,8 @@ use Rattle.rpc_peer.specs.Said.{Said, request, notification, result, failure}
 use Rattle.rpc_peer.specs.Meaning.{meaning}
 use Rattle.session_law.specs.declared.InputEnd.{InputEnd}
 use Rattle.session_law.specs.declared.InputEnd.TheVariants.{Border, Damaged, Failed}
-use Rattle.session_law.specs.Methods.{Verdict, opening, closing, verdict, is_named, invalid_request, parse_error}
-use Rattle.session_law.specs.Order.{Event, take, ends, write}
+use Rattle.session_law.specs.Methods.{Verdict, asking, opening, closing, refusal, verdict, unreadable, paths_wanted, is_named, invalid_request, parse_error}
+use Rattle.session_law.specs.Order.{Entries, Event, take, ends, hand, write}
 
 -- A request that is open: it was taken, wasn't refused with the id null, and has no response yet.
 pub record Asked : Type 0 where
@@ -35,6 +36,11 @@ abbrev pub without : Id → List Asked → List Asked
 without id [] = []
 without id (asked ∷ others) = if same_id id asked.id then others else asked ∷ without id others
 
+-- the paths that the first request wants which wants some
+abbrev pub wanted_by : List Asked → Option (List (List ℕ))
+wanted_by [] = None
+wanted_by (asked ∷ others) = option_or (paths_wanted asked.verdict) (wanted_by others)
+
 abbrev pub is_opening : Option Verdict → Bool
 is_opening (Some opening) = true
 is_opening _ = false
@@ -50,6 +56,19 @@ abbrev pub opened_by : Result Said ℤ → Bool → Bool → List Asked → List
 opened_by (Ok (request id method params)) opened closed requests =
     if is_open id requests then requests else requests ++ record { id = id; verdict = verdict method opened closed } ∷ []
 opened_by _ opened closed requests = requests
+
+-- what a request is owed once the tree answered
+abbrev pub handed_over : Option Entries → Verdict → Verdict
+handed_over None asking = unreadable
+handed_over (Some entries) asking = opening
+handed_over handed opening = opening
+handed_over handed closing = closing
+handed_over handed (refusal code text) = refusal code text
+
+-- the open requests once the tree answered
+abbrev pub handed_by : Option Entries → List Asked → List Asked
+handed_by handed [] = []
+handed_by handed (asked ∷ others) = record { id = asked.id; verdict = handed_over handed asked.verdict } ∷ handed_by handed others
 
 -- the open requests once a message was written
 abbrev pub closed_by : Said → List Asked → List Asked
@@ -97,6 +116,7 @@ abbrev mutual
   open_after [] = []
   open_after (take body ∷ past) = opened_by (meaning body) (opened_after past) (closed_after past) (open_after past)
   open_after (ends how ∷ past) = open_after past
+  open_after (hand handed ∷ past) = handed_by handed (open_after past)
   open_after (write m ∷ past) = closed_by m (open_after past)
 
   -- an initialize was answered with a result
@@ -104,6 +124,7 @@ abbrev mutual
   opened_after [] = false
   opened_after (take body ∷ past) = opened_after past
   opened_after (ends how ∷ past) = opened_after past
+  opened_after (hand handed ∷ past) = opened_after past
   opened_after (write m ∷ past) = opened_after past || is_opening (granted_by m (open_after past))
 
   -- a shutdown was answered with a result
@@ -111,6 +132,7 @@ abbrev mutual
   closed_after [] = false
   closed_after (take body ∷ past) = closed_after past
   closed_after (ends how ∷ past) = closed_after past
+  closed_after (hand handed ∷ past) = closed_after past
   closed_after (write m ∷ past) = closed_after past || is_closing (granted_by m (open_after past))
 
 -- the codes that are owed with the id null, in order of arrival
@@ -118,6 +140,7 @@ abbrev pub nulls_after : List Event → List ℤ
 nulls_after [] = []
 nulls_after (take body ∷ past) = nulls_after past ++ nulls_for (meaning body) (open_after past)
 nulls_after (ends how ∷ past) = nulls_after past ++ nulls_for_end how
+nulls_after (hand handed ∷ past) = nulls_after past
 nulls_after (write m ∷ past) = nulls_behind m (nulls_after past)
 
 -- the status that the session ended with, where it ended
@@ -125,4 +148,5 @@ abbrev pub status_after : List Event → Option ℕ
 status_after [] = None
 status_after (take body ∷ past) = exit_status (meaning body) (closed_after past)
 status_after (ends how ∷ past) = Some (end_status how)
+status_after (hand handed ∷ past) = status_after past
 status_after (write m ∷ past) = status_after past

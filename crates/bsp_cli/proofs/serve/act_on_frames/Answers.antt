@@ -1,19 +1,17 @@
-use Rattle.std.proofs.Common.{◌∙◌, ◌∷◌}
-use Rattle.session_law.specs.Order.{take}
-use Rattle.session_core.specs.Standing.{onto}
+use Rattle.std.proofs.Common.{◌∙◌, ◌++◌}
 use Rattle.bsp_cli.proofs.ProgressLaws.{progress_acts, stopped_at, stopped_here, sound_behind, damage_left}
 use Rattle.bsp_cli.proofs.serve.act_on_frames.Goals as goal
 
 pub returns-in-Err-clause-stopped : goal.returns-in-Err-clause-stopped
-returns-in-Err-clause-stopped g c = λ left0 left given0 so.
-    let here = stopped_here c.frames.core c.frames.decoder left0 left given0 _ (c.frames.invariant.progress left0 left given0 so) in
+returns-in-Err-clause-stopped g c = λ left0 left start so.
+    let here = stopped_here c.frames.core c.frames.decoder left0 left start _ (c.frames.invariant.progress left0 left start so) in
     rw c.in-Err.ensures.err here
 
 pub returns-in-Ok-Some-act-clause-progress : goal.returns-in-Ok-Some-act-clause-progress
-returns-in-Ok-Some-act-clause-progress g c = λ left0 left given0 so.
+returns-in-Ok-Some-act-clause-progress g c = λ left0 left start so.
     let begins = rw (c.in-Ok-Some.field-0-is, ← c.as_slice.ensures.value) at c.in-Ok-Some.ensures.some in
-    progress_acts c.frames.core c.act.new.core c.frames.decoder c.next_body.new.self c.as_slice.result.now left0 left given0 _ _ begins c.in-Ok-Some.ensures.count
-    (c.frames.invariant.progress left0 left given0 so) c.in-Ok-Some-act.ensures.acts
+    progress_acts c.frames.core c.act.new.core c.frames.decoder c.next_body.new.self c.as_slice.result.now left0 left start _ _ begins c.in-Ok-Some.ensures.count
+    (c.frames.invariant.progress left0 left start so) c.in-Ok-Some-act.ensures.steps
 
 pub returns-in-Ok-Some-act-clause-sound : goal.returns-in-Ok-Some-act-clause-sound
 returns-in-Ok-Some-act-clause-sound g c = λ sound.
@@ -26,26 +24,27 @@ returns-in-Ok-Some-act-clause-damage g c = λ damage has.
     damage_left c.frames.decoder c.next_body.new.self c.in-Ok-Some.body.items begins c.in-Ok-Some.ensures.count damage (c.frames.invariant.damage damage has)
 
 pub returns-in-Err-act-clause-stopped : goal.returns-in-Err-act-clause-stopped
-returns-in-Err-act-clause-stopped g c = λ left0 left given0 so.
+returns-in-Err-act-clause-stopped g c = λ left0 left start so.
     let begins = rw (c.in-Ok-Some.field-0-is, ← c.as_slice.ensures.value) at c.in-Ok-Some.ensures.some in
-    stopped_at c.frames.core c.act.new.core c.frames.decoder c.next_body.new.self c.as_slice.result.now left0 left given0 _ _ begins c.in-Ok-Some.ensures.count
-    (c.frames.invariant.progress left0 left given0 so) c.in-Err-act.ensures.halts
+    stopped_at c.frames.core c.act.new.core c.frames.decoder c.next_body.new.self c.as_slice.result.now left0 left start _ _ begins c.in-Ok-Some.ensures.count
+    (c.frames.invariant.progress left0 left start so) c.in-Err-act.ensures.stops
 
 pub frames-preserved : goal.frames-preserved
 frames-preserved g c =
     let before = c.frames.invariant in
     let begins = rw (c.in-Ok-Some.field-0-is, ← c.as_slice.ensures.value) at c.in-Ok-Some.ensures.some in
-    let acts = c.in-Ok-None-act.ensures.acts in
+    let steps = c.in-Ok-None-act.ensures.steps in
     record {
       ready = record {
         quiet = c.in-Ok-None-act.ensures.quiet;
+        free = c.in-Ok-None-act.ensures.free;
         alive = c.in-Ok-None-act.ensures.alive;
         running = rw c.in-Ok-None-act.field-0-is at c.in-Ok-None-act.ensures.status;
       };
-      stood = (onto acts.messages (take c.as_slice.result.now ∷ before.stood.0), acts.stands before.stood.0 before.stood.1);
-      progress = λ left0 left given0 so.
-          progress_acts c.frames.core c.act.new.core c.frames.decoder c.next_body.new.self c.as_slice.result.now left0 left given0 _ _ begins c.in-Ok-Some.ensures.count
-          (before.progress left0 left given0 so) acts;
+      stood = (steps.events ++ before.stood.0, steps.stands before.stood.0 before.stood.1);
+      progress = λ left0 left start so.
+          progress_acts c.frames.core c.act.new.core c.frames.decoder c.next_body.new.self c.as_slice.result.now left0 left start _ _ begins c.in-Ok-Some.ensures.count
+          (before.progress left0 left start so) steps;
       sound = λ sound. sound_behind c.frames.decoder.bytes c.as_slice.result.now c.next_body.new.self.bytes begins (before.sound sound);
       damage = λ damage has. damage_left c.frames.decoder c.next_body.new.self c.as_slice.result.now begins c.in-Ok-Some.ensures.count damage (before.damage damage has);
       count = c.in-Ok-Some.ensures.count ∙ before.count;

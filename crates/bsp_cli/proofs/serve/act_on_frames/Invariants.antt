@@ -4,6 +4,7 @@ use Rattle.rpc_frame.specs.declared.damage.Damage.{Damage}
 use Rattle.rpc_frame.specs.Damages.{HasDamage}
 use Rattle.session_law.specs.Order.{Event}
 use Rattle.session_core.specs.Standing.{StandsFor}
+use Rattle.bsp_cli.specs.Outside.{Told, told}
 use Rattle.bsp_cli.specs.Progress.{IsReady, Progress, fed}
 use Rattle.bsp_cli.proofs.serve.act_on_frames.Given as goal
 
@@ -12,8 +13,9 @@ invariant-frames g l =
     record {
       ready : IsReady l.core;
       stood : (order : List Event) × StandsFor l.core order;
-      progress : (left0 left given0 : Option (List ℕ)) → Progress l.initial.core l.initial.decoder left0 left given0 (g.K.Sink.given l.initial.output)
-          → Progress l.core l.decoder left0 left given0 (g.K.Sink.given l.output);
+      progress : (left0 left : Option (List ℕ)) (start : Told)
+          → Progress l.initial.core l.initial.decoder left0 left start (told (g.K.Sink.given l.initial.output) (g.T.Tree.handed l.initial.tree) (g.T.Tree.faults l.initial.tree))
+          → Progress l.core l.decoder left0 left start (told (g.K.Sink.given l.output) (g.T.Tree.handed l.tree) (g.T.Tree.faults l.tree));
       sound : IsSound l.initial.decoder.bytes → IsSound l.decoder.bytes;
       damage : (damage : Damage) → HasDamage l.initial.decoder damage → HasDamage l.decoder damage;
       count : fed l.decoder ≡ fed l.initial.decoder;

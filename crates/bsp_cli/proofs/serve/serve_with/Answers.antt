@@ -14,7 +14,7 @@ turns-init g c =
     let core = c.new-core in
     let new = c.new-decoder.ensures in
     record {
-      ready = record { quiet = core.ensures.quiet; alive = core.ensures.alive; running = sym (known core.result [] core.ensures.quiet core.ensures.alive core.ensures.stands).status_is };
+      ready = record { quiet = core.ensures.quiet; free = core.ensures.free; alive = core.ensures.alive; running = sym (known core.result [] core.ensures.quiet core.ensures.alive core.ensures.stands).status_is };
       progress = starts core.result c.new-decoder.result _ _ core.ensures.stands new;
       stood = ([], core.ensures.stands);
       drained = rw new nil_no_frame;
@@ -32,7 +32,7 @@ returns-then-limit-eq0-clause-session g c =
     let input : Change = record { old = g.S.Source.left c.args.input.now; new = g.S.Source.left c.turns.input; faults_old = g.S.Source.faults c.args.input.now; faults_new = g.S.Source.faults c.turns.input } in
     let ending = c.end_of-ending.result in
     let cause = ends_for ending c.turns.decoder input so.progress.read (takes_of so.progress.order) so.progress.frames so.progress.count (c.end_of-ending.ensures input (inr limit)) in
-    rw (c.outcome.ensures, so.total, c.damage.ensures) (session_ends _ _ _ _ _ _ _ _ c.turns.core c.finish-status.new.core c.turns.decoder c.how-how.result (damage_of ending) _ so.progress so.drained
+    rw (c.outcome.ensures, so.total, c.damage.ensures) (session_ends _ _ _ _ _ _ _ _ _ c.turns.core c.finish-status.new.core c.turns.decoder c.how-how.result (damage_of ending) so.progress so.ready so.drained
     (rw c.how-how.ensures cause) c.finish-status.result c.finish-status.ensures.status)
 
 pub returns-in-Ok-Exits-clause-session : goal.returns-in-Ok-Exits-clause-session
@@ -61,8 +61,8 @@ returns-in-Ok-Ends-clause-session g c =
     let input : Change = record { old = g.S.Source.left c.args.input.now; new = g.S.Source.left c.take_turn.new.input; faults_old = g.S.Source.faults c.args.input.now; faults_new = g.S.Source.faults c.take_turn.new.input } in
     let cause = same_cause c.in-Ok-Ends.ending c.take_turn.new.decoder (g.S.Source.left c.turns.input) (g.S.Source.left c.args.input.now) _ _ _ _ so.input_same ends.cause in
     let behind = ends_for c.in-Ok-Ends.ending c.take_turn.new.decoder input progress.read (takes_of progress.order) progress.frames progress.count cause in
-    rw (c.outcome-in-Ok-Ends.ensures, c.take_turn.ensures.total, c.damage-in-Ok-Ends.ensures) (session_ends _ _ _ _ _ _ _ _ c.take_turn.new.core c.finish-status-in-Ok-Ends.new.core c.take_turn.new.decoder
-    c.how-how-in-Ok-Ends.result (damage_of c.in-Ok-Ends.ending) _ progress ends.drained (rw c.how-how-in-Ok-Ends.ensures behind) c.finish-status-in-Ok-Ends.result
+    rw (c.outcome-in-Ok-Ends.ensures, c.take_turn.ensures.total, c.damage-in-Ok-Ends.ensures) (session_ends _ _ _ _ _ _ _ _ _ c.take_turn.new.core c.finish-status-in-Ok-Ends.new.core c.take_turn.new.decoder
+    c.how-how-in-Ok-Ends.result (damage_of c.in-Ok-Ends.ending) progress ends.ready ends.drained (rw c.how-how-in-Ok-Ends.ensures behind) c.finish-status-in-Ok-Ends.result
     c.finish-status-in-Ok-Ends.ensures.status)
 
 pub returns-in-Err-clause-session : goal.returns-in-Err-clause-session

@@ -12,7 +12,7 @@ messages-preserved g c =
       flushes = flushes_more c.args.core.now c.messages.core c.next_out.new.self _ _ _ (said c.in-Some.message) so.flushes c.in-Some.ensures.stands c.in-Ok.ensures.sends;
       stood = (write (said c.in-Some.message) ∷ stood.0, c.in-Some.ensures.stands stood.0 stood.1);
       alive = λ alive. c.in-Some.ensures.alive (so.alive alive);
-      status = c.in-Some.ensures.status ∙ so.status;
+      state = c.in-Some.ensures.state ∙ so.state;
       same = search rules;
     }
 

@@ -1,0 +1,22 @@
+-- What the tree and the output tell, and how that changes by the events of a session.
+use Rattle.std.specs.Prelude.{◌≡◌, ◌++◌, ℕ, List, [], flat_map, Option}
+use Rattle.bsp_edge.specs.Handing.{Entries, Hands}
+use Rattle.bsp_edge.specs.Streams.{Gives}
+use Rattle.session_law.specs.Lawful.{text_of}
+use Rattle.session_law.specs.Order.{Event, writes_of, hands_of, failures_of}
+use Rattle.bsp_cli.specs.Session.{RoseBy}
+
+-- what they tell at one moment: what the output was given, what the tree handed out, and its faults
+pub record Told : Type 0 where
+  pub given : Option (List ℕ)
+  pub handed : Option (List Entries)
+  pub faults : ℕ
+
+abbrev pub told : Option (List ℕ) → Option (List Entries) → ℕ → Told
+told given handed faults = record { given = given; handed = handed; faults = faults }
+
+-- between two moments lie the hands and the writes of these events, and these bytes more
+pub record Tells (events : List Event) (tail : List ℕ) (old new : Told) : Type 0 where
+  pub hands : Hands old.handed new.handed (hands_of events)
+  pub failures : RoseBy (failures_of events) old.faults new.faults
+  pub put : Gives old.given new.given (flat_map text_of (writes_of events) ++ tail)

@@ -1,0 +1,34 @@
+ghost use Rattle.std.specs.Prelude.{◌≡◌, ◌∷◌, [], IfOk};
+ghost use Rattle.session_law.specs.Methods.{workspace_path};
+
+use ob_text::{Items, NoMemory, Path};
+use rpc_peer::Id;
+use std::alloc::Global;
+
+/// The name of the workspace file, in the folder of the workspace.
+const WORKSPACE: &[u8] = b"oberon-build.json";
+
+/// What the session needs from outside.
+#[derive(Drop)]
+pub enum Need {
+    /// What the tree holds at these paths, in order.
+    Tree(Items<Path>),
+}
+
+/// A request that waits for what the tree holds.
+#[derive(Drop)]
+pub enum Awaiting {
+    /// An initialize, which wants the workspace file.
+    Opening { id: Id },
+}
+
+/// The path of the workspace file, alone.
+#[tactic(auto, unfolding(session_law::specs::Methods::workspace_path))]
+pub fn workspace_paths(alloc: Global) -> Result<Items<Path>, NoMemory>
+    ensures { IfOk result (λ paths. paths ≡ workspace_path ∷ []) }
+{
+    let path = Path::new(alloc, WORKSPACE)?;
+    let mut paths = Vec::new(alloc);
+    paths.push(path)?;
+    Ok(Items::from_vec(paths))
+}
