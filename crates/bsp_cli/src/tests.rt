@@ -28,8 +28,8 @@ const INVALID: &[u8] =
 const UNREADABLE: &[u8] =
     b"Content-Length: 79\r\n\r\n{\"error\":{\"code\":-32603,\"message\":\"sources unreadable\"},\"id\":1,\"jsonrpc\":\"2.0\"}";
 
-const UNKNOWN_INITIALIZE: &[u8] =
-    b"Content-Length: 77\r\n\r\n{\"error\":{\"code\":-32601,\"message\":\"method not found\"},\"id\":1,\"jsonrpc\":\"2.0\"}";
+const INVALID_INITIALIZE: &[u8] =
+    b"Content-Length: 76\r\n\r\n{\"error\":{\"code\":-32600,\"message\":\"invalid request\"},\"id\":1,\"jsonrpc\":\"2.0\"}";
 
 const WORKSPACE_FILE: &[u8] = b"oberon-build.json";
 
@@ -192,7 +192,7 @@ fn ends_of_input(rt: HostRuntime) -> Result<(), Fail> {
             &[SHUTDOWN, unread, EXIT],
             1,
             156,
-            &[UNKNOWN_CLOSE, INVALID],
+            &[EARLY_CLOSE, INVALID],
             b"",
         ),
     ];
@@ -206,6 +206,81 @@ fn ends_of_input(rt: HostRuntime) -> Result<(), Fail> {
             joined(alloc, answers)?.as_slice(),
             notes,
         );
+    }
+    Ok(())
+}
+
+fn framed(alloc: Global, bodies: &[&[u8]]) -> Result<Vec<u8>, Fail> {
+    let mut bytes = Vec::new(alloc);
+    for body in bodies {
+        let head = format!(in alloc; "Content-Length: {}\r\n\r\n", body.len())?;
+        bytes.extend_from_slice(head.as_bytes())?;
+        bytes.extend_from_slice(body)?;
+    }
+    Ok(bytes)
+}
+
+const COMPILE: &[u8] =
+    b"{\"jsonrpc\":\"2.0\",\"id\":7,\"method\":\"buildTarget/compile\",\"params\":{\"targets\":[]}}";
+
+const EARLY_COMPILE: &[u8] =
+    b"{\"error\":{\"code\":-32002,\"message\":\"server not initialized\"},\"id\":7,\"jsonrpc\":\"2.0\"}";
+
+const LATE_COMPILE: &[u8] =
+    b"{\"error\":{\"code\":-32600,\"message\":\"invalid request\"},\"id\":7,\"jsonrpc\":\"2.0\"}";
+
+const UNKNOWN: &[u8] = b"{\"jsonrpc\":\"2.0\",\"id\":7,\"method\":\"x\"}";
+
+const UNKNOWN_ANSWER: &[u8] =
+    b"{\"error\":{\"code\":-32601,\"message\":\"method not found\"},\"id\":7,\"jsonrpc\":\"2.0\"}";
+
+const INVALID_BODY: &[u8] =
+    b"{\"error\":{\"code\":-32600,\"message\":\"invalid request\"},\"id\":null,\"jsonrpc\":\"2.0\"}";
+
+const NO_JSON: &[u8] =
+    b"{\"error\":{\"code\":-32700,\"message\":\"parse error\"},\"id\":null,\"jsonrpc\":\"2.0\"}";
+
+#[test]
+fn judges_before_and_behind_the_session(rt: HostRuntime) -> Result<(), Fail> {
+    let alloc = rt.alloc();
+    let before = framed(alloc, &[COMPILE])?;
+    let behind = framed(alloc, &[COMPILE, UNKNOWN])?;
+    let early = framed(alloc, &[EARLY_COMPILE])?;
+    let late = framed(alloc, &[LATE_COMPILE, LATE_COMPILE])?;
+    let session = joined(alloc, &[before.as_slice(), INITIALIZE, SHUTDOWN, behind.as_slice(), EXIT])?;
+    let answers = joined(alloc, &[early.as_slice(), INITIALIZED, CLOSED, late.as_slice()])?;
+    let read = session.len() as u64;
+    let left = run_on(alloc, session, Vec::new(alloc))?;
+    expect_left(&rt, &left, 0, read, answers.as_slice(), b"");
+    Ok(())
+}
+
+#[test]
+fn judges_bodies_and_ids(rt: HostRuntime) -> Result<(), Fail> {
+    let alloc = rt.alloc();
+    let cases: [(&[u8], &[u8]); 7] = [
+        (UNKNOWN, UNKNOWN_ANSWER),
+        (b"", NO_JSON),
+        (b"{", NO_JSON),
+        (b"[]", INVALID_BODY),
+        (b"{\"jsonrpc\":\"2.0\",\"id\":1.5,\"method\":\"x\"}", INVALID_BODY),
+        (
+            b"{\"jsonrpc\":\"2.0\",\"id\":9223372036854775808,\"method\":\"x\"}",
+            INVALID_BODY,
+        ),
+        (
+            b"{\"jsonrpc\":\"2.0\",\"id\":\"a\",\"method\":\"x\"}",
+            b"{\"error\":{\"code\":-32601,\"message\":\"method not found\"},\"id\":\"a\",\"jsonrpc\":\"2.0\"}",
+        ),
+    ];
+    for (body, answer) in cases {
+        let sent = framed(alloc, &[body])?;
+        let answered = framed(alloc, &[answer])?;
+        let session = joined(alloc, &[INITIALIZE, sent.as_slice()])?;
+        let answers = joined(alloc, &[INITIALIZED, answered.as_slice()])?;
+        let read = session.len() as u64;
+        let left = run_on(alloc, session, Vec::new(alloc))?;
+        expect_left(&rt, &left, 1, read, answers.as_slice(), b"");
     }
     Ok(())
 }
@@ -245,8 +320,8 @@ fn damages(rt: HostRuntime) -> Result<(), Fail> {
     Ok(())
 }
 
-const UNKNOWN_CLOSE: &[u8] =
-    b"Content-Length: 77\r\n\r\n{\"error\":{\"code\":-32601,\"message\":\"method not found\"},\"id\":2,\"jsonrpc\":\"2.0\"}";
+const EARLY_CLOSE: &[u8] =
+    b"Content-Length: 83\r\n\r\n{\"error\":{\"code\":-32002,\"message\":\"server not initialized\"},\"id\":2,\"jsonrpc\":\"2.0\"}";
 
 #[test]
 fn source_fails_at_each_call(rt: HostRuntime) -> Result<(), Fail> {
@@ -324,10 +399,10 @@ fn sink_fails_at_each_write(rt: HostRuntime) -> Result<(), Fail> {
 fn tree_fails_at_each_call(rt: HostRuntime) -> Result<(), Fail> {
     let alloc = rt.alloc();
     let cases: [(&[u64], u8, &[&[u8]], usize); 4] = [
-        (&[], 0, &[INITIALIZED, UNKNOWN_INITIALIZE, CLOSED], 1),
+        (&[], 0, &[INITIALIZED, INVALID_INITIALIZE, CLOSED], 1),
         (&[1], 0, &[UNREADABLE, INITIALIZED, CLOSED], 1),
-        (&[2], 0, &[INITIALIZED, UNKNOWN_INITIALIZE, CLOSED], 1),
-        (&[1, 2], 1, &[UNREADABLE, UNREADABLE, UNKNOWN_CLOSE], 0),
+        (&[2], 0, &[INITIALIZED, INVALID_INITIALIZE, CLOSED], 1),
+        (&[1, 2], 1, &[UNREADABLE, UNREADABLE, EARLY_CLOSE], 0),
     ];
     for (failing, status, answers, handed) in cases {
         let session = joined(alloc, &[INITIALIZE, INITIALIZE, SHUTDOWN, EXIT])?;

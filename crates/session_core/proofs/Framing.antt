@@ -17,10 +17,13 @@ use Rattle.rpc_peer.specs.declared.message.Id.TheVariants.{Number, Text}
 use Rattle.rpc_peer.specs.Said.{IsId, HasText, id_data, id_limit, answered_data, error_data, version, body_of, result, failure}
 use Rattle.rpc_frame.specs.declared.TheConstants.{CONTENT_LIMIT}
 use Rattle.session_law.specs.Lawful.{IsFramed}
-use Rattle.session_law.specs.Methods.{initialize_result, null_message, method_not_found, sources_unreadable, parse_error}
-use Rattle.session_core.specs.Acting.{answer_to}
+use Rattle.session_law.specs.Methods.{initialize_result, null_message}
+use Rattle.rpc_peer.specs.Meaning.{parse_error}
+use Rattle.session_core.specs.Acting.{answer_to, code_of, message_of}
 use Rattle.session_core.specs.declared.verdicts.Answer.{Answer}
-use Rattle.session_core.specs.declared.verdicts.Answer.TheVariants.{Opening, Closing, Unknown, Unreadable}
+use Rattle.session_core.specs.declared.verdicts.Answer.TheVariants.{Opening, Closing, Refused}
+use Rattle.session_core.specs.declared.verdicts.Reason.{Reason}
+use Rattle.session_core.specs.declared.verdicts.Reason.TheVariants.{NotInitialized, Invalid, Unknown, Unreadable}
 use Rattle.session_core.proofs.Literals.{is_ascii, literal_text}
 
 -- ---- how long the text of a value is
@@ -173,13 +176,24 @@ framed_refusal id code text h fits plain short =
       fits = failure_fits (Some id) code text (id_short id h) (error_short code text fits short);
     }
 
-unknown_short : length (members_text true (member (codes "message") (string (codes "method not found")) no_members)) ≤ 40
+short_message : (reason : Reason) → length (members_text true (member (codes "message") (string (message_of reason)) no_members)) ≤ 40
 unfolding serde_json_on_literals
-unknown_short = lit≤ tt
+short_message NotInitialized = lit≤ tt
+short_message Invalid = lit≤ tt
+short_message Unknown = lit≤ tt
+short_message Unreadable = lit≤ tt
 
-unreadable_short : length (members_text true (member (codes "message") (string (codes "sources unreadable")) no_members)) ≤ 40
-unfolding serde_json_on_literals
-unreadable_short = lit≤ tt
+plain_message : (reason : Reason) → is_ascii (message_of reason) ≡ true
+plain_message NotInitialized = refl
+plain_message Invalid = refl
+plain_message Unknown = refl
+plain_message Unreadable = refl
+
+code_fits : (reason : Reason) → FitsSigned w64 (code_of reason)
+code_fits NotInitialized = omega (arith, ints)
+code_fits Invalid = omega (arith, ints)
+code_fits Unknown = omega (arith, ints)
+code_fits Unreadable = omega (arith, ints)
 
 pub framed_unread : (code : ℤ) → FitsSigned w64 code → IsFramed (failure None code (null_message code))
 unfolding null_message
@@ -195,5 +209,4 @@ framed_unread code h =
 pub framed_answer : (id : Id) (answer : Answer) → IsId id → IsFramed (answer_to id answer)
 framed_answer id Opening h = framed_opening id h
 framed_answer id Closing h = framed_closing id h
-framed_answer id Unknown h = framed_refusal id method_not_found (codes "method not found") h (omega (arith, ints)) refl unknown_short
-framed_answer id Unreadable h = framed_refusal id sources_unreadable (codes "sources unreadable") h (omega (arith, ints)) refl unreadable_short
+framed_answer id (Refused reason) h = framed_refusal id (code_of reason) (message_of reason) h (code_fits reason) (plain_message reason) (short_message reason)

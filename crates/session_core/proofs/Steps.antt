@@ -8,16 +8,17 @@ use Rattle.serde_json.specs.Data.{Data, null}
 use Rattle.rpc_peer.specs.declared.message.Id.{Id}
 use Rattle.rpc_peer.specs.declared.message.Id.TheVariants.{Number, Text}
 use Rattle.rpc_peer.specs.declared.message.Message.{Message}
-use Rattle.rpc_peer.specs.Meaning.{meaning}
+use Rattle.rpc_peer.specs.Meaning.{meaning, parse_error}
+use Rattle.rpc_peer.specs.OpenIds.{same_id}
 use Rattle.rpc_peer.specs.Said.{Said, said, request, notification, result, failure, IsId}
 use Rattle.session_law.specs.declared.InputEnd.TheVariants.{Border, Damaged, Failed}
 use Rattle.session_law.specs.declared.InputEnd.{InputEnd}
 use Rattle.ob_text.specs.declared.held.Snapshot.{Snapshot}
 use Rattle.session_law.specs.Lawful.{Lawful, EachAllowed, IsFramed, IsGranted}
-use Rattle.session_law.specs.Methods.{Verdict, asking, opening, closing, refusal, verdict, parse_error, method_not_found, sources_unreadable, initialize_result}
+use Rattle.session_law.specs.Methods.{Verdict, asking, opening, closing, refusal, verdict, initialize_result}
 use Rattle.session_law.specs.Order.{Event, take, ends, hand, write}
-use Rattle.session_law.specs.Past.{Asked, same_id, wanted_by, handed_over, handed_by, is_opening, is_closing, exit_status, opened_by, nulls_for, nulls_for_end, end_status, open_after, opened_after, closed_after, nulls_after, status_after}
-use Rattle.session_core.specs.Acting.{answer_to, answer_unread, answered, opening_answer, owed_verdict, verdict_of, Steps, ServesAs, Serves, Acts, ActsOnHand, Ends, status_by}
+use Rattle.session_law.specs.Past.{Asked, wanted_by, handed_over, handed_by, is_opening, is_closing, exit_status, opened_by, nulls_for, nulls_for_end, end_status, open_after, opened_after, closed_after, nulls_after, status_after}
+use Rattle.session_core.specs.Acting.{answer_to, answer_unread, answered, code_of, message_of, opening_answer, owed_verdict, verdict_of, Steps, ServesAs, Serves, Acts, ActsOnHand, Ends, status_by}
 use Rattle.session_core.specs.State.{State, state_of, asked_by, handed_of, workspace_need}
 use Rattle.session_core.specs.Standing.{Knows, Keeps, EachId, NeedFits, Suits, onto}
 use Rattle.session_core.specs.declared.awaiting.Awaiting.{Awaiting}
@@ -106,10 +107,8 @@ gives : (id : Id) (answer : Answer) (opened closed : Bool) (status : Option ℕ)
     → IsFramed (answer_to id answer) → Keeps false (answered (idle opened closed status) answer) (write (answer_to id answer) ∷ past)
 gives id answers.Opening opened closed status past o framed = gives_result id opening initialize_result opened closed status past o refl framed
 gives id answers.Closing opened closed status past o framed = gives_result id closing null opened closed status past o refl framed
-gives id answers.Unknown opened closed status past o framed =
-    rw (refusal_same method_not_found (codes "method not found") opened closed status) (gives_refusal id method_not_found (codes "method not found") opened closed status past o framed)
-gives id answers.Unreadable opened closed status past o framed =
-    rw (refusal_same sources_unreadable (codes "sources unreadable") opened closed status) (gives_refusal id sources_unreadable (codes "sources unreadable") opened closed status past o framed)
+gives id (answers.Refused reason) opened closed status past o framed =
+    rw (refusal_same (code_of reason) (message_of reason) opened closed status) (gives_refusal id (code_of reason) (message_of reason) opened closed status past o framed)
 
 -- one code is owed with the id null, and is given
 gives_unread : (code : ℤ) (opened closed : Bool) (status : Option ℕ) (past : List Event) → Owes opened closed status [] (code ∷ []) past → IsFramed (answer_unread code)

@@ -4,7 +4,8 @@ use Rattle.ob_text.specs.declared.held.Snapshot.{Snapshot}
 use Rattle.serde_json.specs.Data.{null}
 use Rattle.rpc_peer.specs.declared.message.Id.{Id}
 use Rattle.rpc_peer.specs.Said.{Said, said, request, notification, result, failure, IsId}
-use Rattle.session_law.specs.Methods.{Verdict, asking, opening, closing, refusal, verdict, unreadable, initialize_result, is_named, method_not_found, sources_unreadable, null_message, parse_error}
+use Rattle.session_law.specs.Methods.{Verdict, asking, opening, closing, refusal, verdict, initialize_result, is_named, method_not_found, sources_unreadable, not_initialized, null_message}
+use Rattle.rpc_peer.specs.Meaning.{invalid_request, parse_error}
 use Rattle.session_law.specs.Lawful.{IsFramed}
 use Rattle.session_law.specs.Order.{Entries}
 use Rattle.session_law.specs.Past.{is_opening, is_closing}
@@ -16,15 +17,29 @@ use Rattle.session_core.specs.declared.awaiting.Awaiting.TheVariants as awaits
 use Rattle.session_core.specs.declared.session.Core.{Core}
 use Rattle.session_core.specs.declared.verdicts.Answer.{Answer}
 use Rattle.session_core.specs.declared.verdicts.Answer.TheVariants as answers
+use Rattle.session_core.specs.declared.verdicts.Reason.{Reason}
+use Rattle.session_core.specs.declared.verdicts.Reason.TheVariants as reasons
 use Rattle.session_core.specs.declared.verdicts.Owed.{Owed}
 use Rattle.session_core.specs.declared.verdicts.Owed.TheVariants as owing
+
+-- the code of a refusal, and its message
+abbrev pub code_of : Reason → ℤ
+code_of reasons.NotInitialized = not_initialized
+code_of reasons.Invalid = invalid_request
+code_of reasons.Unknown = method_not_found
+code_of reasons.Unreadable = sources_unreadable
+
+abbrev pub message_of : Reason → List ℕ
+message_of reasons.NotInitialized = codes "server not initialized"
+message_of reasons.Invalid = codes "invalid request"
+message_of reasons.Unknown = codes "method not found"
+message_of reasons.Unreadable = codes "sources unreadable"
 
 -- what the core answers, in the words of the law
 abbrev pub verdict_of : Answer → Verdict
 verdict_of answers.Opening = opening
 verdict_of answers.Closing = closing
-verdict_of answers.Unknown = refusal method_not_found (codes "method not found")
-verdict_of answers.Unreadable = unreadable
+verdict_of (answers.Refused reason) = refusal (code_of reason) (message_of reason)
 
 -- what the core finds a request to be owed
 abbrev pub owed_verdict : Owed → Verdict
@@ -35,8 +50,7 @@ owed_verdict (owing.Answer answer) = verdict_of answer
 abbrev pub answer_to : Id → Answer → Said
 answer_to id answers.Opening = result (Some id) initialize_result
 answer_to id answers.Closing = result (Some id) null
-answer_to id answers.Unknown = failure (Some id) method_not_found (codes "method not found")
-answer_to id answers.Unreadable = failure (Some id) sources_unreadable (codes "sources unreadable")
+answer_to id (answers.Refused reason) = failure (Some id) (code_of reason) (message_of reason)
 
 -- the response with the id null and this code
 abbrev pub answer_unread : ℤ → Said
@@ -102,7 +116,7 @@ Ends old new Failed = Steps old new (record (state_of old) { status = Some 3 }) 
 
 -- the answer to an initialize, by what the tree handed out
 abbrev pub opening_answer : Option Snapshot → Answer
-opening_answer None = answers.Unreadable
+opening_answer None = answers.Refused reasons.Unreadable
 opening_answer (Some snapshot) = answers.Opening
 
 -- the core acts on the answer of the tree, for the request that waits for it

@@ -14,12 +14,6 @@ use std::alloc::{AllocError, Global};
 /// The code of an input that is no list of frames (JSON-RPC 2.0, section 5.1).
 pub const PARSE_ERROR: i32 = -32700;
 
-/// The code of a request whose method isn't known (JSON-RPC 2.0, section 5.1).
-const METHOD_NOT_FOUND: i64 = -32601;
-
-/// The code of a request for which the tree failed (JSON-RPC 2.0, section 5.1, an internal error).
-const INTERNAL_ERROR: i64 = -32603;
-
 /// The response that gives a request this answer.
 pub fn response(alloc: Global, id: Id, answer: Answer) -> Result<Message, NoMemory>
     ensures { IfOk result (λ m. said m ≡ answer_to id answer) }
@@ -30,8 +24,7 @@ pub fn response(alloc: Global, id: Id, answer: Answer) -> Result<Message, NoMemo
             Ok(success(id, value))
         }
         Answer::Closing => Ok(success(id, Value::Null)),
-        Answer::Unknown => failure(alloc, Some(id), METHOD_NOT_FOUND, b"method not found"),
-        Answer::Unreadable => failure(alloc, Some(id), INTERNAL_ERROR, b"sources unreadable"),
+        Answer::Refused(reason) => failure(alloc, Some(id), reason.code(), reason.message()),
     }
 }
 

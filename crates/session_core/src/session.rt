@@ -1,6 +1,6 @@
 use crate::answers::{PARSE_ERROR, response, unread_answer};
 use crate::awaiting::{Awaiting, Need, workspace_paths};
-use crate::verdicts::{Answer, Owed, judge};
+use crate::verdicts::{Answer, Owed, Reason, judge};
 use ob_text::{NoMemory, Snapshot};
 use rpc_peer::{Id, Message, Refusal, read_message};
 use session_law::InputEnd;
@@ -255,7 +255,7 @@ impl Core {
     {
         match got {
             Some(_) => self.answer(id, Answer::Opening),
-            None => self.answer(id, Answer::Unreadable),
+            None => self.answer(id, Answer::Refused(Reason::Unreadable)),
         }
     }
 

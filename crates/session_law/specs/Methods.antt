@@ -2,6 +2,7 @@
 use Rattle.std.specs.Prelude.{◌==◌, ◌&&◌, ℕ, ℤ, negsuc, List, [], ◌∷◌, codes, Bool, true, not, Option, Some, None, if◌then◌else◌}
 use Rattle.std.specs.Cmp.Lexicographic.{pointwise}
 use Rattle.std.specs.Ordering.{int_eq}
+use Rattle.rpc_peer.specs.Meaning.{invalid_request, parse_error}
 use Rattle.serde_json.specs.Data.{Data, boolean, string, array, object, item, no_items, member, no_members}
 
 abbrev pub is_named : List ℕ → List ℕ → Bool
@@ -9,17 +10,15 @@ is_named name method = pointwise ◌==◌ name method
 
 -- ---- codes and their messages (JSON-RPC 2.0, section 5.1)
 
-abbrev pub parse_error : ℤ
-parse_error = negsuc 32699
-
-abbrev pub invalid_request : ℤ
-invalid_request = negsuc 32599
-
 abbrev pub method_not_found : ℤ
 method_not_found = negsuc 32600
 
 abbrev pub sources_unreadable : ℤ
 sources_unreadable = negsuc 32602
+
+-- the server's own code (Language Server Protocol 3.17, ErrorCodes)
+abbrev pub not_initialized : ℤ
+not_initialized = negsuc 32001
 
 -- the message beside a code that is answered with the id null
 unfoldable pub null_message : ℤ → List ℕ
@@ -65,6 +64,10 @@ pub data Verdict : Type 0 where
 unfoldable pub workspace_path : List ℕ
 workspace_path = codes "oberon-build.json"
 
+-- the request isn't one that may come now
+abbrev pub invalid : Verdict
+invalid = refusal invalid_request (codes "invalid request")
+
 -- the paths that a request wants
 abbrev pub paths_wanted : Verdict → Option (List (List ℕ))
 paths_wanted asking = Some (workspace_path ∷ [])
@@ -76,8 +79,12 @@ paths_wanted (refusal code text) = None
 abbrev pub unreadable : Verdict
 unreadable = refusal sources_unreadable (codes "sources unreadable")
 
--- A session is opened once, and closed once while it is open. No other method is known.
+-- Before an initialize was answered with a result nothing else is served, and behind it no other one. Behind
+-- an answered shutdown nothing is served. Else the method has to be known.
 unfoldable pub verdict : List ℕ → Bool → Bool → Verdict
 verdict method opened closed =
-    if is_named (codes "build/initialize") method && not opened then asking
-    else (if is_named (codes "build/shutdown") method && (opened && not closed) then closing else refusal method_not_found (codes "method not found"))
+    if is_named (codes "build/initialize") method then (if opened then invalid else asking)
+    else (if not opened then refusal not_initialized (codes "server not initialized")
+    else (if closed then invalid
+    else (if is_named (codes "build/shutdown") method then closing
+    else refusal method_not_found (codes "method not found"))))

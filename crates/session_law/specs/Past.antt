@@ -1,27 +1,19 @@
 -- What a session owes, has opened and has ended with, as functions of what happened in it.
-use Rattle.std.specs.Prelude.{◌==◌, ◌||◌, ℕ, ℤ, List, [], ◌∷◌, ◌++◌, codes, Bool, true, false, Option, Some, None, is_some, Result, Ok, Err, drop, if◌then◌else◌}
+use Rattle.std.specs.Prelude.{◌||◌, ℕ, ℤ, List, [], ◌∷◌, ◌++◌, codes, Bool, true, false, Option, Some, None, is_some, Result, Ok, Err, drop, if◌then◌else◌}
 use Rattle.std.specs.Option.{option_or}
-use Rattle.std.specs.Cmp.Lexicographic.{pointwise}
-use Rattle.std.specs.Ordering.{int_eq}
 use Rattle.rpc_peer.specs.declared.message.Id.{Id}
-use Rattle.rpc_peer.specs.declared.message.Id.TheVariants.{Number, Text}
 use Rattle.rpc_peer.specs.Said.{Said, request, notification, result, failure}
-use Rattle.rpc_peer.specs.Meaning.{meaning}
+use Rattle.rpc_peer.specs.Meaning.{meaning, invalid_request, parse_error}
+use Rattle.rpc_peer.specs.OpenIds.{same_id}
 use Rattle.session_law.specs.declared.InputEnd.{InputEnd}
 use Rattle.session_law.specs.declared.InputEnd.TheVariants.{Border, Damaged, Failed}
-use Rattle.session_law.specs.Methods.{Verdict, asking, opening, closing, refusal, verdict, unreadable, paths_wanted, is_named, invalid_request, parse_error}
+use Rattle.session_law.specs.Methods.{Verdict, asking, opening, closing, refusal, verdict, unreadable, paths_wanted, is_named}
 use Rattle.session_law.specs.Order.{Entries, Event, take, ends, hand, write}
 
 -- A request that is open: it was taken, wasn't refused with the id null, and has no response yet.
 pub record Asked : Type 0 where
   pub id : Id
   pub verdict : Verdict
-
-abbrev pub same_id : Id → Id → Bool
-same_id (Number m) (Number n) = int_eq m n
-same_id (Text s) (Text t) = pointwise ◌==◌ s t
-same_id (Number m) (Text t) = false
-same_id (Text s) (Number n) = false
 
 -- what the open request with this id is owed
 abbrev pub owed_to : Id → List Asked → Option Verdict
