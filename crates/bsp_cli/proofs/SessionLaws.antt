@@ -1,11 +1,11 @@
 -- How a session ends.
-use Rattle.std.proofs.Common.{◌≡◌, inl, inr, ◌+◌, ◌++◌, ◌≤◌, ℕ, List, [], ◌∷◌, length, take, Option, Some, None, IfSome, refl, sym, ap, ◌∙◌, subst, lit≤, arith, append_assoc, append-nil, length-append}
+use Rattle.std.proofs.Common.{◌≡◌, inl, inr, ◌+◌, ◌++◌, ◌≤◌, ℕ, List, [], ◌∷◌, length, take, Option, Some, None, IfSome, refl, sym, ap, ◌∙◌, subst, lit≤, arith, append-nil, length-append}
 use Rattle.bsp_edge.specs.Streams.{Gives}
 use Rattle.rpc_frame.specs.Frames.{HasNoFrame, FramesTo, Frames, Waiting}
 use Rattle.rpc_frame.specs.declared.damage.Damage.{Damage}
 use Rattle.rpc_frame.specs.Damages.{DamageAt}
 use Rattle.rpc_frame.proofs.DamageLaws.{damage_behind}
-use Rattle.rpc_frame.proofs.FrameLaws.{nil_no_frame, broken_rest, broken_not_sound, sound_front}
+use Rattle.rpc_frame.proofs.FrameLaws.{frames_apart, nil_no_frame, broken_rest, broken_not_sound, sound_front}
 use Rattle.session_law.specs.declared.InputEnd.{InputEnd}
 use Rattle.session_law.specs.declared.InputEnd.TheVariants as input_end
 use Rattle.session_law.specs.Lawful.{IsSettled}
@@ -30,21 +30,6 @@ use Rattle.bsp_cli.proofs.EventLaws.{tells_end, tells_nothing}
 
 -- ---- the frames through the last that was acted on
 
-record Split (bytes : List ℕ) (bodies : List (List ℕ)) (rest : List ℕ) : Type 0 where
-  front : List ℕ
-  whole : bytes ≡ front ++ rest
-  frames : FramesTo front bodies []
-
-split : (bytes : List ℕ) (bodies : List (List ℕ)) (rest : List ℕ) → FramesTo bytes bodies rest → Split bytes bodies rest
-split bytes [] rest frames = record { front = []; whole = frames; frames = refl }
-split bytes (body ∷ bodies) rest frames =
-    let behind = split frames.after bodies rest frames.others in
-    record {
-      front = frames.begins.frame ++ behind.front;
-      whole = frames.begins.whole ∙ (ap (λ after. frames.begins.frame ++ after) behind.whole ∙ sym (append_assoc frames.begins.frame behind.front rest));
-      frames = record { after = behind.front; begins = record { frame = frames.begins.frame; «is» = frames.begins.«is»; whole = refl }; others = behind.frames };
-    }
-
 take_front : (front rest : List ℕ) → take (length front) (front ++ rest) ≡ front
 take_front [] rest = refl
 take_front (b ∷ front) rest = ap (λ more. b ∷ more) (take_front front rest)
@@ -61,7 +46,7 @@ all_taken (b ∷ bytes) = ap (λ rest. b ∷ rest) (all_taken bytes)
 -- the bytes through the last frame acted on are frames and nothing more
 taken_frames : (read : List ℕ) (bodies : List (List ℕ)) (rest : List ℕ) (n : ℕ) → FramesTo read bodies rest → length read ≡ n + length rest → Frames (take n read) bodies []
 taken_frames read bodies rest n frames count =
-    let parts = split read bodies rest frames in
+    let parts = frames_apart read bodies rest frames in
     record { frames = rw (front_taken parts.front rest read n parts.whole count) parts.frames; none = nil_no_frame }
 
 status_small : (how : InputEnd) → end_status how ≤ 3
@@ -249,7 +234,7 @@ has_more stream told read count (inr limit) = inr (count ∙ limit)
 read_damage : (read : List ℕ) (bodies : List (List ℕ)) (rest : List ℕ) (given_end place : ℕ) (damage : Damage) → FramesTo read bodies rest → length read ≡ given_end + length rest
     → damage.place ≡ given_end + place → DamageAt rest place damage.kind → DamageAt read damage.place damage.kind
 read_damage read bodies rest given_end place damage frames count counted at =
-    let parts = split read bodies rest frames in
+    let parts = frames_apart read bodies rest frames in
     let there : DamageAt (parts.front ++ rest) (length parts.front + place) damage.kind = damage_behind parts.front bodies rest place damage.kind parts.frames at in
     let same : damage.place ≡ length parts.front + place = omega (arith, counted, count, ap length parts.whole, length-append parts.front rest) in
     rw (parts.whole, same) there

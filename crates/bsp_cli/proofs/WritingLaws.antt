@@ -14,7 +14,7 @@ use Rattle.session_core.specs.declared.session.Core.{Core}
 use Rattle.session_core.proofs.StandingLaws.{stood_lawful, onto-push, takes_of-onto, end_of-onto}
 use Rattle.bsp_cli.specs.declared.stop.Stop.{Stop}
 use Rattle.bsp_cli.specs.declared.stop.Stop.TheVariants.{Sink, NoMemory}
-use Rattle.bsp_cli.specs.Outside.{Told, told, Tells}
+use Rattle.bsp_cli.specs.Outside.{Told, told}
 use Rattle.bsp_cli.specs.Session.{RoseBy}
 use Rattle.bsp_cli.specs.Writing.{Acts, Flushes, GivesFront, GivesSoFar, Halts, HaltsAt, Sends, Steps, Stops}
 use Rattle.bsp_cli.proofs.EventLaws.{onto-append, takes_of-append, end_of-append, tells_append, tells_nothing, tells_onto, unasked}

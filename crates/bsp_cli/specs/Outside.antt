@@ -1,5 +1,5 @@
 -- What the tree and the output tell, and how that changes by the events of a session.
-use Rattle.std.specs.Prelude.{◌≡◌, ◌++◌, ℕ, List, [], flat_map, Option}
+use Rattle.std.specs.Prelude.{◌++◌, ℕ, List, flat_map, Option}
 use Rattle.bsp_edge.specs.Handing.{Entries, Hands}
 use Rattle.bsp_edge.specs.Streams.{Gives}
 use Rattle.session_law.specs.Lawful.{text_of}

@@ -1,6 +1,9 @@
 //! The program `oberon-bsp`: its top call over any input and output, and the real ones.
 #![tactic(auto)]
 
+ghost use Rattle.std.specs.Prelude.{◌≡◌, ℕ, List, IfOk};
+ghost use Rattle.bsp_cli.specs.Words.{ServesFolder};
+
 mod acting;
 mod notes;
 mod run;
@@ -48,7 +51,9 @@ fn run_program(rt: HostRuntime) -> Result<Ended, NoMemory> {
 }
 
 // The folder that the words name, or the current one where they name none.
-fn folder_of(alloc: Global, words: &[Text]) -> Result<Text, NoMemory> {
+fn folder_of(alloc: Global, words: &[Text]) -> Result<Text, NoMemory>
+    ensures { IfOk result (λ folder. (named : List ℕ) → ServesFolder words.now named → folder ≡ named) }
+{
     match read_words(words) {
         Ok(Command::Serve { folder }) => folder.copy(alloc),
         Err(Usage) => Text::new(alloc, b"."),

@@ -106,14 +106,14 @@ fn act_on_frames<T: Tree, K: Sink>(
     requires stood { (order : List Event) × StandsFor core.old order }
     ensures progress { OnOk result ((left0 left : Option (List ℕ)) (start : Told)
         → Progress core.old decoder.old left0 left start
-            (told (K.given output.old) (T.handed tree.old) (T.faults tree.old))
+        (told (K.given output.old) (T.handed tree.old) (T.faults tree.old))
         → Progress core.new decoder.new left0 left start
-            (told (K.given output.new) (T.handed tree.new) (T.faults tree.new))) }
+        (told (K.given output.new) (T.handed tree.new) (T.faults tree.new))) }
     ensures stopped { OnErr result ((left0 left : Option (List ℕ)) (start : Told)
         → Progress core.old decoder.old left0 left start
-            (told (K.given output.old) (T.handed tree.old) (T.faults tree.old))
+        (told (K.given output.old) (T.handed tree.old) (T.faults tree.old))
         → Stopped decoder.new.given_end left0 left start
-            (told (K.given output.new) (T.handed tree.new) (T.faults tree.new))) }
+        (told (K.given output.new) (T.handed tree.new) (T.faults tree.new))) }
     ensures quiet { OnOk result (IsQuiet core.new) }
     ensures free { OnOk result (IsFree core.new) }
     ensures alive { OnOk result (IsAlive core.new) }
@@ -229,14 +229,14 @@ fn take_turn<S: Source, T: Tree, K: Sink>(
     requires sound { IsSound decoder.old.bytes }
     ensures progress { OnOk result ((left0 : Option (List ℕ)) (start : Told)
         → Progress core.old decoder.old left0 (S.left input.old) start
-            (told (K.given output.old) (T.handed tree.old) (T.faults tree.old))
+        (told (K.given output.old) (T.handed tree.old) (T.faults tree.old))
         → Progress core.new decoder.new left0 (S.left input.new) start
-            (told (K.given output.new) (T.handed tree.new) (T.faults tree.new))) }
+        (told (K.given output.new) (T.handed tree.new) (T.faults tree.new))) }
     ensures stopped { OnErr result ((left0 : Option (List ℕ)) (start : Told)
         → Progress core.old decoder.old left0 (S.left input.old) start
-            (told (K.given output.old) (T.handed tree.old) (T.faults tree.old))
+        (told (K.given output.old) (T.handed tree.old) (T.faults tree.old))
         → Stopped decoder.new.given_end left0 (S.left input.new) start
-            (told (K.given output.new) (T.handed tree.new) (T.faults tree.new))) }
+        (told (K.given output.new) (T.handed tree.new) (T.faults tree.new))) }
     ensures goes_on { result ≡ Ok Turn.GoesOn → MayGoOn core.new decoder.new (fed decoder.old)
         (S.faults input.old) (S.faults input.new) }
     ensures exits { IfOk result (λ turn. (status : ℕ) → turn ≡ Turn.Exits status
@@ -255,7 +255,9 @@ fn take_turn<S: Source, T: Tree, K: Sink>(
     ensures same { OnOk result (K.faults output.new ≡ K.faults output.old) }
 {
     match fetch(input, decoder, total, into) {
-        Ok(Fetched::Piece(damage)) => match act_on_frames(alloc, core, decoder, tree, output, frame) {
+        Ok(Fetched::Piece(damage)) => match act_on_frames(
+            alloc, core, decoder, tree, output, frame,
+        ) {
             Ok(Some(status)) => Ok(Turn::Exits(status)),
             Ok(None) => match damage {
                 None => Ok(Turn::GoesOn),

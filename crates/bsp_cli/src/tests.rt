@@ -86,14 +86,7 @@ fn run<S: Source, T: Tree, K: Sink>(
     notes: &mut K,
 ) -> Result<Ended, Fail> {
     let words = texts(alloc, &[b"serve", b"w"])?;
-    Ok(run_words(
-        alloc,
-        words.as_slice(),
-        input,
-        tree,
-        output,
-        notes,
-    ))
+    Ok(run_words(alloc, words.as_slice(), input, tree, output, notes))
 }
 
 fn run_from(
@@ -247,8 +240,20 @@ fn judges_before_and_behind_the_session(rt: HostRuntime) -> Result<(), Fail> {
     let behind = framed(alloc, &[COMPILE, UNKNOWN])?;
     let early = framed(alloc, &[EARLY_COMPILE])?;
     let late = framed(alloc, &[LATE_COMPILE, LATE_COMPILE])?;
-    let session = joined(alloc, &[before.as_slice(), INITIALIZE, SHUTDOWN, behind.as_slice(), EXIT])?;
-    let answers = joined(alloc, &[early.as_slice(), INITIALIZED, CLOSED, late.as_slice()])?;
+    let session = joined(
+        alloc,
+        &[
+            before.as_slice(),
+            INITIALIZE,
+            SHUTDOWN,
+            behind.as_slice(),
+            EXIT,
+        ],
+    )?;
+    let answers = joined(
+        alloc,
+        &[early.as_slice(), INITIALIZED, CLOSED, late.as_slice()],
+    )?;
     let read = session.len() as u64;
     let left = run_on(alloc, session, Vec::new(alloc))?;
     expect_left(&rt, &left, 0, read, answers.as_slice(), b"");
@@ -263,7 +268,10 @@ fn judges_bodies_and_ids(rt: HostRuntime) -> Result<(), Fail> {
         (b"", NO_JSON),
         (b"{", NO_JSON),
         (b"[]", INVALID_BODY),
-        (b"{\"jsonrpc\":\"2.0\",\"id\":1.5,\"method\":\"x\"}", INVALID_BODY),
+        (
+            b"{\"jsonrpc\":\"2.0\",\"id\":1.5,\"method\":\"x\"}",
+            INVALID_BODY,
+        ),
         (
             b"{\"jsonrpc\":\"2.0\",\"id\":9223372036854775808,\"method\":\"x\"}",
             INVALID_BODY,

@@ -8,8 +8,7 @@ use Rattle.std.proofs.lemmas.List.Elements.{All-nil, All-cons}
 use Rattle.ob_text.specs.declared.held.TheConstants.{TEXT_LIMIT}
 use Rattle.ob_text.specs.declared.held.Held.{Held}
 use Rattle.ob_text.specs.declared.held.Held.TheVariants.{Text, Absent, TooLarge, NotText}
-use Rattle.ob_text.specs.Held.{IsReadable}
-use Rattle.bsp_edge.specs.Documents.{as_handed}
+use Rattle.bsp_edge.specs.Documents.{IsReadable, as_handed}
 use Rattle.bsp_edge.specs.Handing.{paths_of}
 
 -- what is no UTF-8 fails the test of it

@@ -1,8 +1,7 @@
 ghost use Rattle.std.specs.Prelude.{◌≡◌, ◌<◌, ℕ, List, Option, length, vec_len, IfOk, IfSome};
 ghost use Rattle.std.specs.Bool.{OnTrue, OnFalse};
 ghost use Rattle.std.specs.Io.KnownBytes.{Consumes, IsAtEnd};
-ghost use Rattle.ob_text.specs.Held.{IsReadable};
-ghost use Rattle.bsp_edge.specs.Documents.{as_handed};
+ghost use Rattle.bsp_edge.specs.Documents.{IsReadable, as_handed};
 
 use crate::handing::TreeFault;
 use crate::reading::Got;

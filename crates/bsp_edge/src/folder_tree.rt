@@ -1,6 +1,6 @@
 ghost use Rattle.std.specs.Prelude.{◌≡◌, ◌<◌, None, length, vec_len, IfOk};
 ghost use Rattle.std.specs.List.{All};
-ghost use Rattle.ob_text.specs.Held.{IsReadable};
+ghost use Rattle.bsp_edge.specs.Documents.{IsReadable};
 ghost use Rattle.bsp_edge.specs.Handing.{HandFaults, HandsOut, paths_of};
 
 use crate::document::read_document;

@@ -3,8 +3,7 @@ ghost use Rattle.std.specs.List.{All};
 ghost use Rattle.std.specs.Option.{option_copied, option_or};
 ghost use Rattle.std.specs.Str.{bytes_eq};
 ghost use Rattle.ob_text.specs.Held.{held_at};
-ghost use Rattle.ob_text.specs.Held.{IsReadable};
-ghost use Rattle.bsp_edge.specs.Documents.{as_handed};
+ghost use Rattle.bsp_edge.specs.Documents.{IsReadable, as_handed};
 ghost use Rattle.bsp_edge.specs.Handing.{HandFaults, HandsOut, paths_of};
 ghost use Rattle.bsp_edge.specs.Trees.{TreeAnswers, calls_asked, held_by, left_by};
 

@@ -1,23 +1,9 @@
--- What a snapshot holds at a path, and which texts may be held.
-use Rattle.std.specs.Prelude.{ℕ, ◌≤◌, List, [], ◌∷◌, length, Option, None, Some, if◌then◌else◌}
-use Rattle.std.specs.Str.{IsUtf8, bytes_eq}
-use Rattle.ob_text.specs.declared.held.TheConstants.{TEXT_LIMIT}
+-- What a snapshot holds at a path.
+use Rattle.std.specs.Prelude.{ℕ, List, [], ◌∷◌, Option, None, Some, if◌then◌else◌}
+use Rattle.std.specs.Str.{bytes_eq}
 use Rattle.ob_text.specs.declared.held.Held.{Held}
-use Rattle.ob_text.specs.declared.held.Held.TheVariants.{Text, Absent, TooLarge, NotText}
 
 -- the first entry of a path counts
 abbrev pub held_at : List (List ℕ × Held) → List ℕ → Option Held
 held_at [] path = None
 held_at (entry ∷ entries) path = if bytes_eq entry.0 path then Some entry.1 else held_at entries path
-
--- UTF-8 within the limit
-pub record IsDocument (text : List ℕ) : Type 0 where
-  pub utf8 : IsUtf8 text
-  pub within : length text ≤ TEXT_LIMIT
-
--- a text among what is held is a document
-abbrev pub IsReadable : Held → Type 0
-IsReadable (Text text) = IsDocument text
-IsReadable Absent = Unit {0}
-IsReadable TooLarge = Unit {0}
-IsReadable NotText = Unit {0}

@@ -1,4 +1,5 @@
-//! The messages of JSON-RPC 2.0: what a body means, and how a message is written as a body.
+//! The messages of JSON-RPC 2.0: what a body means, how a message is written as a body, and which
+//! requests are open.
 #![tactic(auto)]
 
 mod members;

@@ -13,6 +13,5 @@ pub(crate) fn take_member(members: &mut Map<String, Value>, name: &str) -> Optio
         → get_member other (members_view members.new.entries)
         ≡ get_member other (members_view members.old.entries) }
 {
-    let found = members.remove(name);
-    found
+    members.remove(name)
 }

@@ -232,11 +232,11 @@ module _ (old new : Core) (order : List Event) (quiet : old.out.items ≡ []) (a
     by_owed : (event : Event) (id : Id) (o : Owed) → IsId id → Owes old.opened old.closed None (owed id (owed_verdict o)) [] (event ∷ order) → Serves old new id o → Next event
     by_owed event id owing.Asking named owes acts =
         steps old new _ [] (event ∷ order) acts quiet alive (subst (λ state. Keeps false (record state { awaiting = Some (awaits.Opening id); need = Some workspace_need }) (event ∷ order)) (sym state_is)
-          (keeps_asking id old.opened old.closed None (event ∷ order) named owes))
+        (keeps_asking id old.opened old.closed None (event ∷ order) named owes))
     by_owed event id (owing.Answer answer) named owes acts =
         steps old new _ (answer_to id answer ∷ []) (event ∷ order) acts quiet alive
         (subst (λ state. Keeps false (answered state answer) (write (answer_to id answer) ∷ event ∷ order)) (sym state_is)
-          (gives id answer old.opened old.closed None (event ∷ order) owes (framed_answer id answer named)))
+        (gives id answer old.opened old.closed None (event ∷ order) owes (framed_answer id answer named)))
 
     pub acted : (body : List ℕ) (meant : Result Said ℤ) → meaning body ≡ meant → Acts old new meant → Next (take body)
     acted body (Ok (request id method params)) means acts =
@@ -245,8 +245,8 @@ module _ (old new : Core) (order : List Event) (quiet : old.out.items ≡ []) (a
     acted body (Ok (notification method params)) means acts =
         let owes = taken old.opened old.closed order keeps.lawful rests body (Ok (notification method params)) means in
         steps old new _ [] (take body ∷ order) acts quiet alive (subst (λ state. Keeps false (record state { status = status_by method old.closed old.status }) (take body ∷ order)) (sym state_is)
-          (subst (λ status. Keeps false (idle old.opened old.closed (status_by method old.closed status)) (take body ∷ order)) (sym none)
-          (gives_none old.opened old.closed (status_by method old.closed None) (take body ∷ order) owes)))
+        (subst (λ status. Keeps false (idle old.opened old.closed (status_by method old.closed status)) (take body ∷ order)) (sym none)
+        (gives_none old.opened old.closed (status_by method old.closed None) (take body ∷ order) owes)))
     acted body (Ok (result id value)) means acts =
         let owes = taken old.opened old.closed order keeps.lawful rests body (Ok (result id value)) means in
         steps old new _ [] (take body ∷ order) acts quiet alive (subst (λ state. Keeps false state (take body ∷ order)) (sym state_is) (gives_none old.opened old.closed None (take body ∷ order) owes))
@@ -266,7 +266,7 @@ module _ (old new : Core) (order : List Event) (quiet : old.out.items ≡ []) (a
         let owes = ended old.opened old.closed order keeps.lawful rests Damaged in
         steps old new _ (answer_unread parse_error ∷ []) (ends Damaged ∷ order) acts.0 quiet alive
         (subst (λ state. Keeps false (record state { status = Some 2 }) (write (answer_unread parse_error) ∷ ends Damaged ∷ order)) (sym state_is)
-          (gives_unread parse_error old.opened old.closed (Some 2) (ends Damaged ∷ order) owes acts.1))
+        (gives_unread parse_error old.opened old.closed (Some 2) (ends Damaged ∷ order) owes acts.1))
     acted_on_end Failed acts =
         let owes = ended old.opened old.closed order keeps.lawful rests Failed in
         steps old new _ [] (ends Failed ∷ order) acts quiet alive (subst (λ state. Keeps false (record state { status = Some 3 }) (ends Failed ∷ order)) (sym state_is) (gives_none old.opened old.closed (Some 3) (ends Failed ∷ order) owes))
@@ -319,7 +319,7 @@ module _ (old new : Core) (order : List Event) (quiet : old.out.items ≡ []) (a
         let given = gives id answer old.opened old.closed old.status (hand (handed_of got) ∷ order) (handed id is) (framed_answer id answer named.0) in
         steps old new _ (answer_to id answer ∷ []) (hand (handed_of got) ∷ order) acts quiet alive
         (subst (λ need. Keeps false (record (answered (idle old.opened old.closed old.status) answer) { need = need }) (write (answer_to id answer) ∷ hand (handed_of got) ∷ order))
-          (sym needless) given)
+        (sym needless) given)
 
 -- ---- either way
 

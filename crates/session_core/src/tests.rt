@@ -1,29 +1,22 @@
-use crate::{Core, Need};
+use crate::Core;
 use rpc_peer::{Id, Message};
 use std::test::Fail;
 
 #[test]
-fn answers_an_initialize_without_its_file(rt: HostRuntime) -> Result<(), Fail> {
+fn refuses_a_shutdown_before_an_initialize(rt: HostRuntime) -> Result<(), Fail> {
     let mut core = Core::new(rt.alloc());
     assert!(rt; core.is_idle());
-    core.message(b"{\"jsonrpc\":\"2.0\",\"id\":4,\"method\":\"build/initialize\"}")?;
+    core.message(b"{\"jsonrpc\":\"2.0\",\"id\":4,\"method\":\"build/shutdown\"}")?;
     assert!(rt; !core.is_idle());
-    match core.next_need() {
-        Some(Need::Tree(paths)) => {
-            assert_eq!(rt; paths.as_slice().len(), 1);
-            core.snapshot(None)?;
-        }
-        None => panic!(rt; "no need"),
-    }
     match core.next_out() {
-        Some(Message::Response {
-            id,
-            answer: Err(error),
-        }) => {
+        Some(Message::Response { id, answer }) => {
             assert!(rt; id == Some(Id::Number(4)));
-            assert_eq!(rt; error.code, -32603);
+            match answer {
+                Ok(_) => panic!(rt; "a result"),
+                Err(error) => assert_eq!(rt; error.code, -32002),
+            }
         }
-        _ => panic!(rt; "no failure"),
+        _ => panic!(rt; "no response"),
     }
     assert!(rt; core.next_out().is_none());
     assert_eq!(rt; core.exited(), None);

@@ -3,7 +3,7 @@ use Rattle.std.specs.Prelude.{◌≡◌, ◌≤◌, ℕ, ℤ, List, [], ◌∷�
 use Rattle.std.specs.List.{All}
 use Rattle.serde_json.specs.Data.{Data, null}
 use Rattle.serde_json.specs.Written.{has_float}
-use Rattle.ob_text.specs.Held.{IsReadable}
+use Rattle.bsp_edge.specs.Documents.{IsReadable}
 use Rattle.rpc_frame.specs.Frames.{written_frame}
 use Rattle.rpc_frame.specs.declared.TheConstants.{CONTENT_LIMIT}
 use Rattle.rpc_peer.specs.Said.{Said, request, notification, result, failure, HasTexts, said_data, body_of}

@@ -7,8 +7,8 @@ use Rattle.rpc_peer.proofs.members.take_member.Goals as goal
 
 pub returns-clause-found : goal.returns-clause-found
 returns-clause-found c =
-    ap (option_map view) c.remove-found.ensures.value ∙ view-lookup c.args.name.now c.args.members.now.entries
+    ap (option_map view) c.remove.ensures.value ∙ view-lookup c.args.name.now c.args.members.now.entries
 
 pub returns-clause-others : goal.returns-clause-others
 returns-clause-others c other apart =
-    ap (λ es. get_member other (members_view es)) c.remove-found.ensures.entries ∙ others_stay c.args.name.now other c.args.members.now.entries apart
+    ap (λ es. get_member other (members_view es)) c.remove.ensures.entries ∙ others_stay c.args.name.now other c.args.members.now.entries apart

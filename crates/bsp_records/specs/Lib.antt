@@ -1,0 +1,11 @@
+pub mod Shapes
+pub mod Reading
+pub mod Writing
+pub mod Identifiers
+pub mod Diagnostics
+pub mod Shown
+pub mod Table
+pub mod Params
+pub mod Results
+pub mod Tasks
+pub mod Notices

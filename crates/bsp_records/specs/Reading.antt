@@ -1,0 +1,29 @@
+-- What a reader answers.
+use Rattle.std.specs.Prelude.{◌≡◌, ℕ, List, Option, Some, None, if◌then◌else◌, Result, Ok, Err}
+use Rattle.serde_json.specs.Data.{Data}
+use Rattle.bsp_records.specs.Shapes.{Shape, bad_params, is_null}
+use Rattle.bsp_records.specs.declared.bad_params.BadParams.{BadParams}
+use Rattle.bsp_records.specs.declared.bad_params.BadParams.TheVariants.{At, NoMemory}
+
+-- params with no bad field are the record that they stand for
+abbrev pub Is : {A : Type 0} → Shape → (Data → A) → Data → A → Type 0
+Is shape of d x = (bad_params shape d ≡ None) × (x ≡ of d)
+
+-- the first bad field of params is at this path
+abbrev pub Bad : Shape → Data → List ℕ → Type 0
+Bad shape d path = bad_params shape d ≡ Some path
+
+-- A record that was read is the value's, and a refusal has the path of the first bad field. Want of
+-- memory says nothing.
+abbrev pub ReadBy : {A : Type 0} → (A → Type 0) → (List ℕ → Type 0) → Result A BadParams → Type 0
+ReadBy IsRead IsBad (Ok x) = IsRead x
+ReadBy IsRead IsBad (Err (At path)) = IsBad path
+ReadBy IsRead IsBad (Err NoMemory) = Unit {0}
+
+-- the same, for a part of a value that is bad at this place, if at any, and that else stands for this
+abbrev pub Reads : {A : Type 0} → Option (List ℕ) → A → Result A BadParams → Type 0
+Reads found x result = ReadBy (λ y. (found ≡ None) × (y ≡ x)) (λ path. found ≡ Some path) result
+
+-- what a member stands for that may be absent
+abbrev pub if_there : {A : Type 0} → (Data → A) → Data → Option A
+if_there of d = if is_null d then None else Some (of d)

@@ -1,0 +1,51 @@
+//! The records of the Build Server Protocol 2.2: what is read of a JSON value, and what is written
+//! as one.
+#![tactic(auto)]
+
+mod bad_params;
+mod diagnostics;
+mod identifiers;
+mod kinds;
+mod notices;
+mod numbers;
+mod params;
+mod publishing;
+mod reading;
+mod results;
+mod shown;
+mod tasks;
+mod writing;
+
+pub use bad_params::BadParams;
+pub use diagnostics::{DiagnosticRecord, DiagnosticSeverity};
+pub use identifiers::{BuildTargetIdentifier, TextDocumentIdentifier};
+pub use kinds::{ORIGIN_LIMIT, ROOT_LIMIT};
+pub use notices::{
+    BuildTargetEvent, BuildTargetEventKind, DidChangeParams, LogMessageParams, MessageType,
+    write_did_change_params, write_log_message_params,
+};
+pub use params::{
+    BuildClientCapabilities, CleanCacheParams, CompileParams, InitializeParams,
+    InverseSourcesParams, RunParams, SourcesParams, TestParams, read_clean_cache_params,
+    read_compile_params, read_initialize_params, read_inverse_sources_params, read_run_params,
+    read_sources_params, read_test_params,
+};
+pub use publishing::{
+    PublishDiagnosticsParams, read_publish_diagnostics_params, write_publish_diagnostics_params,
+};
+pub use results::{
+    BuildTarget, BuildTargetCapabilities, BuildTargetsResult, CleanCacheResult, CompileResult,
+    InverseSourcesResult, RunResult, SourceItem, SourceItemKind, SourcesItem, SourcesResult,
+    StatusCode, TestResult, write_build_targets_result, write_clean_cache_result,
+    write_compile_result, write_inverse_sources_result, write_run_result, write_sources_result,
+    write_test_result,
+};
+pub use shown::{show, show_all};
+pub use tasks::{
+    CompileReport, CompileTask, TaskFinishBody, TaskFinishParams, TaskId, TaskStartBody,
+    TaskStartParams, TestFinish, TestReport, TestStart, TestStatus, TestTask,
+    write_task_finish_params, write_task_start_params,
+};
+
+#[cfg(test)]
+mod tests;

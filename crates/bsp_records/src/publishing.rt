@@ -1,0 +1,91 @@
+ghost use Rattle.std.specs.Prelude.{◌≡◌, false, IfOk};
+ghost use Rattle.serde_json.specs.View.{view};
+ghost use Rattle.serde_json.specs.Written.{has_float};
+ghost use Rattle.bsp_records.specs.Diagnostics.{publish_diagnostics_params, publish_diagnostics_params_in, publish_diagnostics_params_data, HasPublishTexts, IsPublishDiagnosticsParams, BadPublishDiagnosticsParams};
+ghost use Rattle.bsp_records.specs.Reading.{ReadBy};
+
+use crate::bad_params::BadParams;
+use crate::diagnostics::DiagnosticRecord;
+use crate::identifiers::{BuildTargetIdentifier, TextDocumentIdentifier};
+use crate::reading::{Read, bad_here, optional, read_params, required};
+use crate::writing::{Write, put, put_some};
+use ob_text::{Items, NoMemory, Text};
+use serde_json::{Map, Value};
+use std::alloc::Global;
+
+/// A list of diagnostics of one document and target, or a piece of it (Build Server Protocol 2.2,
+/// build/publishDiagnostics). With `reset` it replaces what is shown, else it goes behind that.
+#[derive(Debug, Drop)]
+pub struct PublishDiagnosticsParams {
+    pub text_document: TextDocumentIdentifier,
+    pub build_target: BuildTargetIdentifier,
+    pub origin_id: Option<Text>,
+    pub diagnostics: Items<DiagnosticRecord>,
+    pub reset: bool,
+}
+
+/// Reads the params of build/publishDiagnostics.
+pub fn read_publish_diagnostics_params(
+    alloc: Global,
+    value: &Value,
+) -> Result<PublishDiagnosticsParams, BadParams>
+    ensures read { ReadBy (IsPublishDiagnosticsParams (view value.now))
+        (BadPublishDiagnosticsParams (view value.now)) result }
+    ensures texts { IfOk result HasPublishTexts }
+{
+    read_params(alloc, value)
+}
+
+/// Writes the params of build/publishDiagnostics.
+pub fn write_publish_diagnostics_params(
+    alloc: Global,
+    params: &PublishDiagnosticsParams,
+) -> Result<Value, NoMemory>
+    requires { HasPublishTexts params.now }
+    ensures data { IfOk result (λ value. view value ≡ publish_diagnostics_params_data params.now) }
+    ensures exact { IfOk result (λ value. has_float (view value) ≡ false) }
+{
+    params.write(alloc)
+}
+
+impl Read for PublishDiagnosticsParams {
+    ghost shape = { publish_diagnostics_params };
+
+    ghost value_in = { publish_diagnostics_params_in };
+
+    ghost HasTexts = { HasPublishTexts };
+
+    fn read(alloc: Global, value: &Value) -> Result<PublishDiagnosticsParams, BadParams> {
+        if !value.is_object() {
+            return Err(bad_here(alloc));
+        }
+        let text_document = required(alloc, value, "textDocument")?;
+        let build_target = required(alloc, value, "buildTarget")?;
+        let origin_id = optional(alloc, value, "originId")?;
+        let diagnostics = required(alloc, value, "diagnostics")?;
+        let reset = required(alloc, value, "reset")?;
+        Ok(PublishDiagnosticsParams {
+            text_document,
+            build_target,
+            origin_id,
+            diagnostics,
+            reset,
+        })
+    }
+}
+
+impl Write for PublishDiagnosticsParams {
+    ghost data_of = { publish_diagnostics_params_data };
+
+    ghost HasTexts = { HasPublishTexts };
+
+    fn write(&self, alloc: Global) -> Result<Value, NoMemory> {
+        let mut object = Map::new(alloc);
+        put(alloc, &mut object, "textDocument", &self.text_document)?;
+        put(alloc, &mut object, "buildTarget", &self.build_target)?;
+        put_some(alloc, &mut object, "originId", &self.origin_id)?;
+        put(alloc, &mut object, "diagnostics", &self.diagnostics)?;
+        put(alloc, &mut object, "reset", &self.reset)?;
+        Ok(Value::Object(object))
+    }
+}

@@ -1,0 +1,87 @@
+ghost use Rattle.std.specs.Prelude.{◌≡◌, ◌++◌, map, take, IfOk, IfSome};
+ghost use Rattle.std.specs.List.{All};
+ghost use Rattle.std.specs.Str.{IsAscii, IsUtf8};
+ghost use Rattle.bsp_records.specs.Diagnostics.{HasDiagnosticTexts};
+ghost use Rattle.bsp_records.specs.Shown.{shown, shown_message, severity_shown, HasPlainName};
+
+use crate::diagnostics::{DiagnosticRecord, DiagnosticSeverity};
+use crate::kinds::owned;
+use ob_text::{Diagnostic, Items, Name, NoMemory, Severity, Text};
+use std::alloc::Global;
+
+/// The most bytes of a name that a message shows.
+const NAME_SHOWN: usize = 64;
+
+/// The diagnostics as the protocol has them, in their order.
+pub fn show_all(alloc: Global, list: &[Diagnostic]) -> Result<Items<DiagnosticRecord>, NoMemory>
+    requires { All HasPlainName list.now }
+    ensures shown { IfOk result (λ records. records ≡ map shown list.now) }
+    ensures texts { IfOk result (All HasDiagnosticTexts) }
+{
+    let mut records = Vec::new(alloc);
+    for diagnostic in list {
+        records.push(show(alloc, diagnostic)?)?;
+    }
+    Ok(Items::from_vec(records))
+}
+
+/// A diagnostic as the protocol has it. Its message ends with the first 64 bytes of its name, where
+/// it has one.
+pub fn show(alloc: Global, diagnostic: &Diagnostic) -> Result<DiagnosticRecord, NoMemory>
+    requires { HasPlainName diagnostic.now }
+    ensures shown { IfOk result (λ made. made ≡ shown diagnostic.now) }
+    ensures texts { IfOk result HasDiagnosticTexts }
+{
+    let code = owned(alloc, diagnostic.code.name())?;
+    let source = owned(alloc, "oberon")?;
+    let message = message_of(alloc, diagnostic.code.message(), &diagnostic.name)?;
+    Ok(DiagnosticRecord {
+        range: diagnostic.range,
+        severity: Some(shown_severity(diagnostic.code.severity())),
+        code: Some(code),
+        source: Some(source),
+        message,
+    })
+}
+
+fn shown_severity(severity: Severity) -> DiagnosticSeverity
+    ensures { result ≡ severity_shown severity }
+{
+    match severity {
+        Severity::Error => DiagnosticSeverity::Error,
+        Severity::Warning => DiagnosticSeverity::Warning,
+    }
+}
+
+fn message_of(alloc: Global, message: &str, name: &Option<Name>) -> Result<Text, NoMemory>
+    requires { IfSome name.now IsAscii }
+    ensures shown { IfOk result (λ text. text ≡ shown_message message.now name.now) }
+    ensures text { IfOk result IsUtf8 }
+{
+    match name {
+        Some(name) => named(alloc, message, name.as_slice()),
+        None => owned(alloc, message),
+    }
+}
+
+#[tactic(auto, using(crate::proofs::ShownLaws::named_text))]
+fn named(alloc: Global, message: &str, name: &[u8]) -> Result<Text, NoMemory>
+    requires { IsAscii name.now }
+    ensures shown { IfOk result (λ text. text ≡ message.now ++ take NAME_SHOWN name.now) }
+    ensures text { IfOk result IsUtf8 }
+{
+    let mut bytes = Vec::from_slice(alloc, message.as_bytes())?;
+    bytes.extend_from_slice(front(name))?;
+    Ok(Text::from_vec(bytes))
+}
+
+/// As much of a name as a message shows.
+fn front(name: &[u8]) -> &[u8]
+    ensures { result.now ≡ take NAME_SHOWN name.now }
+{
+    if name.len() > NAME_SHOWN {
+        &name[..NAME_SHOWN]
+    } else {
+        name
+    }
+}

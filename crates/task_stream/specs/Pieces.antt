@@ -1,0 +1,33 @@
+-- A list of diagnostics as its publications (Build Server Protocol 2.2, build/publishDiagnostics).
+use Rattle.std.specs.Prelude.{ℕ, zero, suc, List, [], ◌∷◌, length, map, take, drop, Bool, true, false, Option}
+use Rattle.bsp_records.specs.declared.diagnostics.DiagnosticRecord.{DiagnosticRecord}
+use Rattle.bsp_records.specs.declared.publishing.PublishDiagnosticsParams.{PublishDiagnosticsParams}
+use Rattle.task_stream.specs.declared.shown.Address.{Address}
+use Rattle.task_stream.specs.declared.shown.TheConstants.{PIECE_LIMIT}
+
+-- one publication
+abbrev pub piece : Address → Option (List ℕ) → Bool → List DiagnosticRecord → PublishDiagnosticsParams
+piece address origin reset records =
+    record {
+      text_document = record { uri = address.document };
+      build_target = record { uri = address.target };
+      origin_id = origin;
+      diagnostics = records;
+      reset = reset;
+    }
+
+-- A list cut into pieces of the limit and a shorter last one; an empty list has none. There are at most
+-- `most` pieces.
+abbrev pub cut : {A : Type 0} → ℕ → List A → List (List A)
+cut zero items = []
+cut (suc most) [] = []
+cut (suc most) (x ∷ xs) = take PIECE_LIMIT (x ∷ xs) ∷ cut most (drop PIECE_LIMIT (x ∷ xs))
+
+-- the pieces behind the first
+abbrev pub later_pieces : {A : Type 0} → List A → List (List A)
+later_pieces items = cut (length items) (drop PIECE_LIMIT items)
+
+-- a whole list in pieces, the first of which resets
+abbrev pub pieces : Address → Option (List ℕ) → List DiagnosticRecord → List PublishDiagnosticsParams
+pieces address origin records =
+    piece address origin true (take PIECE_LIMIT records) ∷ map (piece address origin false) (later_pieces records)
