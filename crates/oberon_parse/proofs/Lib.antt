@@ -1,0 +1,16 @@
+pub mod Back
+pub mod DeclarationJoins
+pub mod Descending
+pub mod Expand
+pub mod First
+pub mod ForthExpressions
+pub mod ForthModules
+pub mod ForthNames
+pub mod ForthStatements
+pub mod ForthTypes
+pub mod Found
+pub mod Joins
+pub mod Operators
+pub mod Parts
+pub mod StatementJoins
+pub mod Steps

@@ -1,0 +1,37 @@
+use Rattle.std.proofs.Common.{refl, arith, ◌∷◌, ◌∙◌, []}
+use Rattle.oberon_parse.proofs.Descending.{via, after_symbol, entered, fewer, exits, onto, behind}
+use Rattle.oberon_tree.specs.Tokens.{ident_token}
+use Rattle.oberon_parse.specs.Expected as want
+use Rattle.oberon_scan.specs.declared.token.Symbol.TheVariants as symbols
+use Rattle.oberon_parse.proofs.local.local_variable.Goals as goal
+
+pub returns-in_err-next : goal.returns-in_err-next
+returns-in_err-next c =
+    exits _ _ c.from_residual.result c.in_err-next.field-0.0 c.from_residual.ensures.1
+    (via (want.idents ∷ []) ((want.local_variables c.args.levels) ∷ []) _ (ident_token c.args.name ∷ c.args.given.now) _ (λ s. (want.symbol symbols.Colon ∷ (want.type_part c.args.levels ∷ (want.symbol symbols.Semicolon ∷ (want.local_variables c.args.levels ∷ s))))) (λ s. entered (want.local_variables c.args.levels) (want.idents ∷ (want.symbol symbols.Colon ∷ (want.type_part c.args.levels ∷ (want.symbol symbols.Semicolon ∷ (want.local_variables c.args.levels ∷ []))))) s _ _ _ refl refl) c.in_err-next.ensures)
+
+pub returns-in_err-colon : goal.returns-in_err-colon
+returns-in_err-colon c =
+    exits _ _ c.from_residual-in_err-colon.result c.in_err-colon.field-0.0 c.from_residual-in_err-colon.ensures.1
+    (via (want.symbol symbols.Colon ∷ []) ((want.local_variables c.args.levels) ∷ []) _ (ident_token c.args.name ∷ c.args.given.now) _ (λ s. (want.type_part c.args.levels ∷ (want.symbol symbols.Semicolon ∷ (want.local_variables c.args.levels ∷ s)))) (λ s. entered (want.local_variables c.args.levels) (want.idents ∷ (want.symbol symbols.Colon ∷ (want.type_part c.args.levels ∷ (want.symbol symbols.Semicolon ∷ (want.local_variables c.args.levels ∷ []))))) s _ _ _ refl refl ∙ c.in_ok-next.ensures.moves (want.symbol symbols.Colon ∷ (want.type_part c.args.levels ∷ (want.symbol symbols.Semicolon ∷ (want.local_variables c.args.levels ∷ s))))) c.in_err-colon.ensures)
+
+pub returns-in_err-of_type : goal.returns-in_err-of_type
+returns-in_err-of_type c =
+    exits _ _ c.from_residual-in_err-of_type.result c.in_err-of_type.field-0.0 c.from_residual-in_err-of_type.ensures.1
+    (via (want.type_part c.args.levels ∷ []) ((want.local_variables c.args.levels) ∷ []) _ (ident_token c.args.name ∷ c.args.given.now) _ (λ s. (want.symbol symbols.Semicolon ∷ (want.local_variables c.args.levels ∷ s))) (λ s. entered (want.local_variables c.args.levels) (want.idents ∷ (want.symbol symbols.Colon ∷ (want.type_part c.args.levels ∷ (want.symbol symbols.Semicolon ∷ (want.local_variables c.args.levels ∷ []))))) s _ _ _ refl refl ∙ c.in_ok-next.ensures.moves (want.symbol symbols.Colon ∷ (want.type_part c.args.levels ∷ (want.symbol symbols.Semicolon ∷ (want.local_variables c.args.levels ∷ s)))) ∙ after_symbol symbols.Colon (want.type_part c.args.levels ∷ (want.symbol symbols.Semicolon ∷ (want.local_variables c.args.levels ∷ s))) c.in_ok-colon.ensures) c.in_err-of_type.ensures)
+
+pub returns-in_err-semicolon : goal.returns-in_err-semicolon
+returns-in_err-semicolon c =
+    exits _ _ c.from_residual-in_err-semicolon.result c.in_err-semicolon.field-0.0 c.from_residual-in_err-semicolon.ensures.1
+    (via (want.symbol symbols.Semicolon ∷ []) ((want.local_variables c.args.levels) ∷ []) _ (ident_token c.args.name ∷ c.args.given.now) _ (λ s. (want.local_variables c.args.levels ∷ s)) (λ s. entered (want.local_variables c.args.levels) (want.idents ∷ (want.symbol symbols.Colon ∷ (want.type_part c.args.levels ∷ (want.symbol symbols.Semicolon ∷ (want.local_variables c.args.levels ∷ []))))) s _ _ _ refl refl ∙ c.in_ok-next.ensures.moves (want.symbol symbols.Colon ∷ (want.type_part c.args.levels ∷ (want.symbol symbols.Semicolon ∷ (want.local_variables c.args.levels ∷ s)))) ∙ after_symbol symbols.Colon (want.type_part c.args.levels ∷ (want.symbol symbols.Semicolon ∷ (want.local_variables c.args.levels ∷ s))) c.in_ok-colon.ensures ∙ c.in_ok-of_type.ensures.moves (want.symbol symbols.Semicolon ∷ (want.local_variables c.args.levels ∷ s))) c.in_err-semicolon.ensures)
+
+pub returns : goal.returns
+returns c = (
+  record {
+    spelled = onto refl (behind c.in_ok-next.ensures (onto c.in_ok-colon.ensures (behind c.in_ok-of_type.ensures (onto c.in_ok-semicolon.ensures refl))));
+    moves = λ s. entered (want.local_variables c.args.levels) (want.idents ∷ (want.symbol symbols.Colon ∷ (want.type_part c.args.levels ∷ (want.symbol symbols.Semicolon ∷ (want.local_variables c.args.levels ∷ []))))) s _ _ _ refl refl ∙ c.in_ok-next.ensures.moves (want.symbol symbols.Colon ∷ (want.type_part c.args.levels ∷ (want.symbol symbols.Semicolon ∷ (want.local_variables c.args.levels ∷ s)))) ∙ after_symbol symbols.Colon (want.type_part c.args.levels ∷ (want.symbol symbols.Semicolon ∷ (want.local_variables c.args.levels ∷ s))) c.in_ok-colon.ensures ∙ c.in_ok-of_type.ensures.moves (want.symbol symbols.Semicolon ∷ (want.local_variables c.args.levels ∷ s)) ∙ after_symbol symbols.Semicolon (want.local_variables c.args.levels ∷ s) c.in_ok-semicolon.ensures;
+    within = omega (arith, c.in_ok-next.ensures.within, c.in_ok-of_type.ensures.within);
+    shorter = omega (arith, c.in_ok-next.ensures.shorter, fewer c.in_ok-colon.ensures, c.in_ok-of_type.ensures.shorter, fewer c.in_ok-semicolon.ensures);
+  },
+  omega (arith, c.in_ok-next.ensures.shorter, fewer c.in_ok-colon.ensures, c.in_ok-of_type.ensures.shorter, fewer c.in_ok-semicolon.ensures),
+)

@@ -1,0 +1,25 @@
+use Rattle.std.proofs.Common.{refl, arith, ◌∷◌, ◌++◌, ◌∙◌, []}
+use Rattle.oberon_parse.specs.Machine.{ident_def_parts}
+use Rattle.oberon_parse.proofs.Descending.{via, after_symbol, fewer, exits, onto, behind}
+use Rattle.oberon_parse.specs.Expected as want
+use Rattle.oberon_scan.specs.declared.token.Symbol.TheVariants as symbols
+use Rattle.oberon_parse.proofs.procedure.heading.Goals as goal
+
+pub returns-in_err-formals : goal.returns-in_err-formals
+returns-in_err-formals c =
+    exits _ _ c.from_residual-in_err-formals.result c.in_err-formals.field-0.0 c.from_residual-in_err-formals.ensures.1
+    (via (want.some_formals c.args.levels ∷ []) (ident_def_parts ++ want.some_formals c.args.levels ∷ want.symbol symbols.Semicolon ∷ []) _ c.args.given.now _ (λ s. (want.symbol symbols.Semicolon ∷ s)) (λ s. c.in_ok-name.ensures.moves (want.some_formals c.args.levels ∷ (want.symbol symbols.Semicolon ∷ s))) c.in_err-formals.ensures)
+
+pub returns-in_err-semicolon : goal.returns-in_err-semicolon
+returns-in_err-semicolon c =
+    exits _ _ c.from_residual-in_err-semicolon.result c.in_err-semicolon.field-0.0 c.from_residual-in_err-semicolon.ensures.1
+    (via (want.symbol symbols.Semicolon ∷ []) (ident_def_parts ++ want.some_formals c.args.levels ∷ want.symbol symbols.Semicolon ∷ []) _ c.args.given.now _ (λ s. s) (λ s. c.in_ok-name.ensures.moves (want.some_formals c.args.levels ∷ (want.symbol symbols.Semicolon ∷ s)) ∙ c.in_ok-formals.ensures.moves (want.symbol symbols.Semicolon ∷ s)) c.in_err-semicolon.ensures)
+
+pub returns : goal.returns
+returns c =
+    record {
+      spelled = behind c.in_ok-name.ensures (behind c.in_ok-formals.ensures (onto c.in_ok-semicolon.ensures refl));
+      moves = λ s. c.in_ok-name.ensures.moves (want.some_formals c.args.levels ∷ (want.symbol symbols.Semicolon ∷ s)) ∙ c.in_ok-formals.ensures.moves (want.symbol symbols.Semicolon ∷ s) ∙ after_symbol symbols.Semicolon s c.in_ok-semicolon.ensures;
+      within = omega (arith, c.in_ok-name.ensures.within, c.in_ok-formals.ensures.within);
+      shorter = omega (arith, c.in_ok-name.ensures.shorter, c.in_ok-formals.ensures.shorter, fewer c.in_ok-semicolon.ensures);
+    }

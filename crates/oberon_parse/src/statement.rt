@@ -1,0 +1,426 @@
+//! Statements (The Programming Language Oberon-07, section 9). Each function is given how many more levels
+//! may be opened.
+ghost use Rattle.std.specs.Prelude.{◌≡◌, ◌∷◌, ◌++◌, [], List, max, suc, MatchOption, MatchResult};
+ghost use Rattle.oberon_scan.specs.declared.token.Word.TheVariants as words;
+ghost use Rattle.oberon_scan.specs.declared.token.Token.{Token as AnyToken};
+ghost use Rattle.oberon_tree.specs.Tokens.{word_token, ident_token};
+ghost use Rattle.oberon_tree.specs.Print.{print_expr, print_statements, print_more_statements, print_statement, print_elsifs, print_else, print_arm, print_more_arms, print_step};
+ghost use Rattle.oberon_tree.specs.Levels.{depth_of_expr, depth_of_statements, depth_of_more_statements, depth_of_statement, depth_of_elsifs, depth_of_else, depth_of_arm, depth_of_more_arms, depth_of_step};
+ghost use Rattle.oberon_tree.specs.Memory.{expr_tree, statements_tree, more_statements_list, statement_tree, elsifs_list, else_option, arm_tree, more_arms_list, step_option};
+ghost use Rattle.oberon_parse.specs.Expected as want;
+ghost use Rattle.oberon_parse.specs.Machine.{statements_parts, guarded_parts};
+ghost use Rattle.oberon_parse.specs.Reads.{Reads, Stops};
+
+use crate::expression::{expr, selectors};
+use crate::label::{first_value, label_upper, more_labels};
+use crate::read::{ident, need_ident, need_symbol, need_word, one_less, symbol, word};
+use crate::stop::Stop;
+use ob_text::Span;
+use oberon_scan::{Symbol, Token, Word};
+use oberon_tree::{
+    Arm, Assignment, Case, Designator, ElsePart, Expr, For, Guarded, Ident, If, Label, Labels,
+    NextArm, NextStatement, Repeat, Statement, Statements, Step, While,
+};
+use std::alloc::Global;
+
+/// `stmts = stmt {";" stmt}`.
+#[cycle(statement)]
+pub fn statements(
+    alloc: Global,
+    given: &[Token],
+    levels: usize,
+) -> Result<(Statements, &[Token]), Stop>
+    ensures { MatchResult result
+        (λ x. Reads (statements_parts levels) levels given.now (print_statements (statements_tree x.0))
+        (depth_of_statements (statements_tree x.0)) x.1.now)
+        (λ e. Stops (statements_parts levels) given.now e) }
+{
+    let (first, rest) = statement(alloc, given, levels)?;
+    let (next, rest) = more_statements(alloc, rest, levels)?;
+    let statements = Statements { first, rest: next };
+    Ok((statements, rest))
+}
+
+/// `{";" stmt}`.
+#[cycle(statement)]
+fn more_statements(
+    alloc: Global,
+    given: &[Token],
+    levels: usize,
+) -> Result<(Vec<NextStatement>, &[Token]), Stop>
+    ensures { MatchResult result
+        (λ x. Reads (want.statements levels ∷ []) levels given.now
+        (print_more_statements (more_statements_list x.0.items))
+        (depth_of_more_statements (more_statements_list x.0.items)) x.1.now)
+        (λ e. Stops (want.statements levels ∷ []) given.now e) }
+{
+    let mut items = Vec::new(alloc);
+    let mut rest = given;
+    while let Some((semicolon, after)) = symbol(rest, Symbol::Semicolon) {
+        let (statement, after) = statement(alloc, after, levels)?;
+        items.push(NextStatement {
+            semicolon,
+            statement,
+        })?;
+        rest = after;
+    }
+    Ok((items, rest))
+}
+
+/// `stmt = [designator [":=" expr] | if | case | while | repeat | for]`.
+#[cycle(statement)]
+fn statement(alloc: Global, given: &[Token], levels: usize) -> Result<(Statement, &[Token]), Stop>
+    ensures { MatchResult result
+        (λ x. Reads (want.statement levels ∷ []) levels given.now (print_statement (statement_tree x.0))
+        (depth_of_statement (statement_tree x.0)) x.1.now)
+        (λ e. Stops (want.statement levels ∷ []) given.now e) }
+{
+    if let Some((name, rest)) = ident(alloc, given)? {
+        return action(alloc, name, rest, levels);
+    }
+    if let Some((place, rest)) = word(given, Word::If) {
+        let inner = one_less(given, levels)?;
+        return conditional(alloc, place, rest, inner);
+    }
+    if let Some((place, rest)) = word(given, Word::Case) {
+        let inner = one_less(given, levels)?;
+        return choice(alloc, place, rest, inner);
+    }
+    if let Some((place, rest)) = word(given, Word::While) {
+        let inner = one_less(given, levels)?;
+        return repetition(alloc, place, rest, inner);
+    }
+    if let Some((place, rest)) = word(given, Word::Repeat) {
+        let inner = one_less(given, levels)?;
+        return repeat(alloc, place, rest, inner);
+    }
+    if let Some((place, rest)) = word(given, Word::For) {
+        let inner = one_less(given, levels)?;
+        return counted(alloc, place, rest, inner);
+    }
+    Ok((Statement::Empty, given))
+}
+
+/// What stands behind the name that a statement begins with: `{selector} [":=" expr]`.
+fn action(
+    alloc: Global,
+    name: Ident,
+    given: &[Token],
+    levels: usize,
+) -> Result<(Statement, &[Token]), Stop>
+    ensures { MatchResult result
+        (λ x. Reads (want.statement levels ∷ []) levels (ident_token name ∷ given.now)
+        (print_statement (statement_tree x.0)) (depth_of_statement (statement_tree x.0)) x.1.now)
+        (λ e. Stops (want.statement levels ∷ []) (ident_token name ∷ given.now) e) }
+{
+    let (selectors, rest) = selectors(alloc, given, levels)?;
+    let place = Designator { name, selectors };
+    let Some((becomes, rest)) = symbol(rest, Symbol::Becomes) else {
+        return Ok((Statement::Call(place), rest));
+    };
+    let (value, rest) = expr(alloc, rest, levels)?;
+    let assignment = Assignment {
+        place,
+        becomes,
+        value,
+    };
+    let boxed = Box::new(alloc, assignment)?;
+    Ok((Statement::Assignment(boxed), rest))
+}
+
+/// `expr THEN stmts`, or the same with DO.
+#[cycle(statement)]
+fn guarded(
+    alloc: Global,
+    given: &[Token],
+    joint: Word,
+    levels: usize,
+) -> Result<((Expr, Span, Statements), &[Token]), Stop>
+    ensures { MatchResult result
+        (λ x. Reads (guarded_parts joint levels) levels given.now
+        (λ (rest : List AnyToken). print_expr (expr_tree x.0.0)
+        (word_token joint x.0.1 ∷ print_statements (statements_tree x.0.2) rest))
+        (max (depth_of_expr (expr_tree x.0.0)) (depth_of_statements (statements_tree x.0.2)))
+        x.1.now)
+        (λ e. Stops (guarded_parts joint levels) given.now e) }
+{
+    let (condition, rest) = expr(alloc, given, levels)?;
+    let (place, rest) = need_word(rest, joint)?;
+    let (body, rest) = statements(alloc, rest, levels)?;
+    Ok(((condition, place, body), rest))
+}
+
+/// `{ELSIF expr THEN stmts}`, or the same with DO.
+#[cycle(statement)]
+fn elsifs(
+    alloc: Global,
+    given: &[Token],
+    joint: Word,
+    levels: usize,
+) -> Result<(Vec<Guarded>, &[Token]), Stop>
+    ensures { MatchResult result
+        (λ x. Reads (want.elsifs joint levels ∷ []) levels given.now
+        (print_elsifs joint (elsifs_list x.0.items)) (depth_of_elsifs (elsifs_list x.0.items)) x.1.now)
+        (λ e. Stops (want.elsifs joint levels ∷ []) given.now e) }
+{
+    let mut items = Vec::new(alloc);
+    let mut rest = given;
+    while let Some((place, after)) = word(rest, Word::Elsif) {
+        let (parts, after) = guarded(alloc, after, joint, levels)?;
+        let (condition, body_word, body) = parts;
+        items.push(Guarded {
+            word: place,
+            condition,
+            body_word,
+            body,
+        })?;
+        rest = after;
+    }
+    Ok((items, rest))
+}
+
+/// `[ELSE stmts]`.
+#[cycle(statement)]
+fn otherwise(
+    alloc: Global,
+    given: &[Token],
+    levels: usize,
+) -> Result<(Option<ElsePart>, &[Token]), Stop>
+    ensures { MatchResult result
+        (λ x. Reads (want.some_else levels ∷ []) levels given.now (print_else (else_option x.0))
+        (depth_of_else (else_option x.0)) x.1.now)
+        (λ e. Stops (want.some_else levels ∷ []) given.now e) }
+{
+    let Some((place, rest)) = word(given, Word::Else) else {
+        return Ok((None, given));
+    };
+    let (body, rest) = statements(alloc, rest, levels)?;
+    let part = ElsePart { word: place, body };
+    Ok((Some(part), rest))
+}
+
+/// What stands behind IF.
+#[cycle(statement)]
+fn conditional(
+    alloc: Global,
+    place: Span,
+    given: &[Token],
+    levels: usize,
+) -> Result<(Statement, &[Token]), Stop>
+    ensures { MatchResult result
+        (λ x. Reads (want.statement (suc levels) ∷ []) (suc levels) (word_token words.If place ∷ given.now)
+        (print_statement (statement_tree x.0)) (depth_of_statement (statement_tree x.0)) x.1.now)
+        (λ e. Stops (want.statement (suc levels) ∷ []) (word_token words.If place ∷ given.now) e) }
+{
+    let (parts, rest) = guarded(alloc, given, Word::Then, levels)?;
+    let (next, rest) = elsifs(alloc, rest, Word::Then, levels)?;
+    let (other, rest) = otherwise(alloc, rest, levels)?;
+    let (end, rest) = need_word(rest, Word::End)?;
+    let (condition, body_word, body) = parts;
+    let first = Guarded {
+        word: place,
+        condition,
+        body_word,
+        body,
+    };
+    let conditional = If {
+        first,
+        rest: next,
+        otherwise: other,
+        end,
+    };
+    let boxed = Box::new(alloc, conditional)?;
+    Ok((Statement::If(boxed), rest))
+}
+
+/// What stands behind CASE.
+#[cycle(statement)]
+fn choice(
+    alloc: Global,
+    place: Span,
+    given: &[Token],
+    levels: usize,
+) -> Result<(Statement, &[Token]), Stop>
+    ensures { MatchResult result
+        (λ x. Reads (want.statement (suc levels) ∷ []) (suc levels)
+        (word_token words.Case place ∷ given.now) (print_statement (statement_tree x.0))
+        (depth_of_statement (statement_tree x.0)) x.1.now)
+        (λ e. Stops (want.statement (suc levels) ∷ []) (word_token words.Case place ∷ given.now) e) }
+{
+    let (value, rest) = expr(alloc, given, levels)?;
+    let (of, rest) = need_word(rest, Word::Of)?;
+    let (first, rest) = arm(alloc, rest, levels)?;
+    let (next, rest) = more_arms(alloc, rest, levels)?;
+    let (end, rest) = need_word(rest, Word::End)?;
+    let case = Case {
+        word: place,
+        value,
+        of,
+        first,
+        rest: next,
+        end,
+    };
+    let boxed = Box::new(alloc, case)?;
+    Ok((Statement::Case(boxed), rest))
+}
+
+/// `arm = [label {"," label} ":" stmts]`.
+#[cycle(statement)]
+fn arm(alloc: Global, given: &[Token], levels: usize) -> Result<(Arm, &[Token]), Stop>
+    ensures { MatchResult result
+        (λ x. Reads (want.arm levels ∷ []) levels given.now (print_arm (arm_tree x.0))
+        (depth_of_arm (arm_tree x.0)) x.1.now)
+        (λ e. Stops (want.arm levels ∷ []) given.now e) }
+{
+    let Some((first, rest)) = first_value(alloc, given)? else {
+        return Ok((Arm::Empty, given));
+    };
+    let (upper, rest) = label_upper(alloc, rest)?;
+    let (next, rest) = more_labels(alloc, rest)?;
+    let (colon, rest) = need_symbol(rest, Symbol::Colon)?;
+    let (body, rest) = statements(alloc, rest, levels)?;
+    let labels = Labels {
+        first: Label { first, upper },
+        rest: next,
+    };
+    let arm = Arm::Labelled {
+        labels,
+        colon,
+        body,
+    };
+    Ok((arm, rest))
+}
+
+/// `{"|" arm}`.
+#[cycle(statement)]
+fn more_arms(
+    alloc: Global,
+    given: &[Token],
+    levels: usize,
+) -> Result<(Vec<NextArm>, &[Token]), Stop>
+    ensures { MatchResult result
+        (λ x. Reads (want.arms levels ∷ []) levels given.now (print_more_arms (more_arms_list x.0.items))
+        (depth_of_more_arms (more_arms_list x.0.items)) x.1.now)
+        (λ e. Stops (want.arms levels ∷ []) given.now e) }
+{
+    let mut items = Vec::new(alloc);
+    let mut rest = given;
+    while let Some((bar, after)) = symbol(rest, Symbol::Bar) {
+        let (arm, after) = arm(alloc, after, levels)?;
+        items.push(NextArm { bar, arm })?;
+        rest = after;
+    }
+    Ok((items, rest))
+}
+
+/// What stands behind WHILE.
+#[cycle(statement)]
+fn repetition(
+    alloc: Global,
+    place: Span,
+    given: &[Token],
+    levels: usize,
+) -> Result<(Statement, &[Token]), Stop>
+    ensures { MatchResult result
+        (λ x. Reads (want.statement (suc levels) ∷ []) (suc levels)
+        (word_token words.While place ∷ given.now) (print_statement (statement_tree x.0))
+        (depth_of_statement (statement_tree x.0)) x.1.now)
+        (λ e. Stops (want.statement (suc levels) ∷ []) (word_token words.While place ∷ given.now) e) }
+{
+    let (parts, rest) = guarded(alloc, given, Word::Do, levels)?;
+    let (next, rest) = elsifs(alloc, rest, Word::Do, levels)?;
+    let (end, rest) = need_word(rest, Word::End)?;
+    let (condition, body_word, body) = parts;
+    let first = Guarded {
+        word: place,
+        condition,
+        body_word,
+        body,
+    };
+    let repetition = While {
+        first,
+        rest: next,
+        end,
+    };
+    let boxed = Box::new(alloc, repetition)?;
+    Ok((Statement::While(boxed), rest))
+}
+
+/// What stands behind REPEAT.
+#[cycle(statement)]
+fn repeat(
+    alloc: Global,
+    place: Span,
+    given: &[Token],
+    levels: usize,
+) -> Result<(Statement, &[Token]), Stop>
+    ensures { MatchResult result
+        (λ x. Reads (want.statement (suc levels) ∷ []) (suc levels)
+        (word_token words.Repeat place ∷ given.now) (print_statement (statement_tree x.0))
+        (depth_of_statement (statement_tree x.0)) x.1.now)
+        (λ e. Stops (want.statement (suc levels) ∷ []) (word_token words.Repeat place ∷ given.now) e) }
+{
+    let (body, rest) = statements(alloc, given, levels)?;
+    let (until, rest) = need_word(rest, Word::Until)?;
+    let (condition, rest) = expr(alloc, rest, levels)?;
+    let repeat = Repeat {
+        word: place,
+        body,
+        until,
+        condition,
+    };
+    let boxed = Box::new(alloc, repeat)?;
+    Ok((Statement::Repeat(boxed), rest))
+}
+
+/// What stands behind FOR.
+#[cycle(statement)]
+fn counted(
+    alloc: Global,
+    place: Span,
+    given: &[Token],
+    levels: usize,
+) -> Result<(Statement, &[Token]), Stop>
+    ensures { MatchResult result
+        (λ x. Reads (want.statement (suc levels) ∷ []) (suc levels) (word_token words.For place ∷ given.now)
+        (print_statement (statement_tree x.0)) (depth_of_statement (statement_tree x.0)) x.1.now)
+        (λ e. Stops (want.statement (suc levels) ∷ []) (word_token words.For place ∷ given.now) e) }
+{
+    let (variable, rest) = need_ident(alloc, given)?;
+    let (becomes, rest) = need_symbol(rest, Symbol::Becomes)?;
+    let (from, rest) = expr(alloc, rest, levels)?;
+    let (to_word, rest) = need_word(rest, Word::To)?;
+    let (limit, rest) = expr(alloc, rest, levels)?;
+    let (step, rest) = step(alloc, rest, levels)?;
+    let (body_word, rest) = need_word(rest, Word::Do)?;
+    let (body, rest) = statements(alloc, rest, levels)?;
+    let (end, rest) = need_word(rest, Word::End)?;
+    let counted = For {
+        word: place,
+        variable,
+        becomes,
+        from,
+        to_word,
+        limit,
+        step,
+        body_word,
+        body,
+        end,
+    };
+    let boxed = Box::new(alloc, counted)?;
+    Ok((Statement::For(boxed), rest))
+}
+
+/// `[BY expr]`.
+fn step(alloc: Global, given: &[Token], levels: usize) -> Result<(Option<Step>, &[Token]), Stop>
+    ensures { MatchResult result
+        (λ x. Reads (want.some_step levels ∷ []) levels given.now (print_step (step_option x.0))
+        (depth_of_step (step_option x.0)) x.1.now)
+        (λ e. Stops (want.some_step levels ∷ []) given.now e) }
+{
+    let Some((place, rest)) = word(given, Word::By) else {
+        return Ok((None, given));
+    };
+    let (value, rest) = expr(alloc, rest, levels)?;
+    Ok((Some(Step { word: place, value }), rest))
+}
