@@ -14,3 +14,4 @@ mod word;
 
 pub use scanned::{Scanned, scan};
 pub use token::{Symbol, Token, TokenKind, Word};
+pub use word::is_reserved;

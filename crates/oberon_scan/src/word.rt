@@ -1,8 +1,18 @@
-ghost use Rattle.std.specs.Prelude.{◌≡◌, if◌then◌else◌, Some, None};
+ghost use Rattle.std.specs.Prelude.{◌≡◌, ◌↔◌, IsTrue, is_some, if◌then◌else◌, Some, None};
 ghost use Rattle.std.specs.Str.{bytes_eq};
 ghost use Rattle.oberon_scan.specs.Finding.{find_word};
+ghost use Rattle.oberon_scan.specs.Spelling.{spelling};
+ghost use Rattle.oberon_scan.specs.declared.token.Word.{Word};
 
 use crate::token::Word;
+
+/// Whether the bytes are a reserved word. Takes no memory.
+pub fn is_reserved(run: &[u8]) -> bool
+    ensures found { result ≡ is_some (find_word run.now) }
+    ensures word { IsTrue result ↔ ((w : Word) × (run.now ≡ spelling w)) }
+{
+    word_of(run).is_some()
+}
 
 /// The reserved word that is spelled so.
 #[tactic(auto, unfolding(crate::specs::Finding::find_word))]

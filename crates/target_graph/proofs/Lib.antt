@@ -1,0 +1,26 @@
+pub mod Places
+pub mod ModuleNames
+pub mod Results
+pub mod FirstBad
+pub mod Values
+pub mod Counts
+pub mod Listed
+pub mod Steps
+pub mod TurnedTests
+pub mod WalkLaws
+pub mod Marked
+pub mod Cycles
+pub mod Rows
+pub mod Numbers
+pub mod Refusals
+pub mod Texts
+pub mod Visible
+pub mod Sound
+pub mod ListerLaws
+pub mod Fronts
+pub mod Ids
+pub mod PairLaws
+pub mod Distinct
+pub mod PlainFaults
+pub mod PlainLaws
+mod NamedLaws

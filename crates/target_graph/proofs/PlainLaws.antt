@@ -1,0 +1,142 @@
+-- Names, stems, paths of fields and addresses are ASCII and short.
+use Rattle.std.proofs.Common.{◌≡◌, ℕ, ◌+◌, ◌-◌, ◌<◌, ◌≤◌, ◌^◌, ◌&&◌, Bool, true, false, not, cond, List, [], ◌∷◌, ◌++◌, length, drop, codes, decimal, eqb, leb, ltb, refl, ap, ◌∙◌, arith}
+use Rattle.std.specs.List.{list_all, slice_split, onto_first, position_or_len, suffix_len}
+use Rattle.std.specs.Str.{IsAscii, bytes_eq}
+use Rattle.std.proofs.lemmas.Bool.{and_parts, leb-true, ltb-true, eqb-true}
+use Rattle.std.proofs.lemmas.Bool.Decides.{nat_tests}
+use Rattle.std.proofs.lemmas.Fmt.{length-decimal-le, IsAscii-decimal}
+use Rattle.std.proofs.lemmas.List.{length-append, length-take, length-drop}
+use Rattle.std.proofs.lemmas.Str.{IsAscii-take, IsAscii-drop, IsAscii-append}
+use Rattle.std.proofs.lemmas.Str.Ascii.{IsAscii-nil, IsAscii-cons}
+use Rattle.target_graph.specs.declared.fields.Part.{Part}
+use Rattle.target_graph.specs.declared.fields.Part.TheVariants as parts
+use Rattle.target_graph.specs.declared.names.TheConstants.{NAME_LIMIT}
+use Rattle.target_graph.specs.Address.{target_address, document_address, IsPlainAddress}
+use Rattle.target_graph.specs.File.{at_index, part_name, part_path, IsPlaced}
+use Rattle.target_graph.specs.Names.{is_name_byte, is_word, is_name, is_segment, segments, stem, is_module_name, is_path, IsPlainName}
+use Rattle.target_graph.specs.Plain.{IsPlain}
+use Rattle.target_graph.specs.Root.{IsRoot}
+
+-- ---- plain texts, one behind another
+
+pub plain_within : (a b : ℕ) (text : List ℕ) → a ≤ b → IsPlain a text → IsPlain b text
+plain_within a b text h p = record { ascii = p.ascii; short = (let s = p.short in omega arith) }
+
+pub plain_append : (a b : ℕ) (xs ys : List ℕ) → IsPlain a xs → IsPlain b ys → IsPlain (a + b) (xs ++ ys)
+plain_append a b xs ys p q = record {
+  ascii = IsAscii-append xs ys p.ascii q.ascii;
+  short = (let s = p.short in let t = q.short in omega (arith, length-append xs ys));
+}
+
+ascii_bytes : (bs : List ℕ) → list_all (λ b. ltb b 128) bs ≡ true → IsAscii bs
+ascii_bytes [] e = IsAscii-nil
+ascii_bytes (b ∷ bs) e = let h = and_parts (ltb b 128) (list_all (λ x. ltb x 128) bs) e in IsAscii-cons b bs (ltb-true b 128 h.0) (ascii_bytes bs h.1)
+
+-- a text that is written out
+pub plain_bytes : (n : ℕ) (bs : List ℕ) → list_all (λ b. ltb b 128) bs ≡ true → length bs ≤ n → IsPlain n bs
+plain_bytes n bs e h = record { ascii = ascii_bytes bs e; short = h }
+
+-- ---- names
+
+name_byte : (b : ℕ) → is_name_byte b ≡ true → b < 128
+name_byte b e = grind (arith, nat_tests)
+
+name_bytes : (text : List ℕ) → list_all is_name_byte text ≡ true → IsAscii text
+name_bytes [] e = IsAscii-nil
+name_bytes (b ∷ bs) e = let h = and_parts (is_name_byte b) (list_all is_name_byte bs) e in IsAscii-cons b bs (name_byte b h.0) (name_bytes bs h.1)
+
+word_bytes : (text : List ℕ) → is_word text ≡ true → list_all is_name_byte text ≡ true
+word_bytes text e = (and_parts (not (eqb (length text) 0)) (list_all is_name_byte text) e).1
+
+pub plain_name : (text : List ℕ) → is_name text ≡ true → IsPlainName text
+unfolding is_name
+plain_name text e =
+    let h = and_parts (is_word text) (leb (length text) NAME_LIMIT) e in
+    record { ascii = name_bytes text (word_bytes text h.0); short = leb-true (length text) NAME_LIMIT h.1 }
+
+-- ---- paths and stems
+
+abbrev are_words : List (List ℕ) → Bool
+are_words parts = list_all (λ part. list_all is_name_byte part) parts
+
+words_of : (parts : List (List ℕ)) → list_all is_segment parts ≡ true → are_words parts ≡ true
+words_of [] e = refl
+words_of (part ∷ parts) e =
+    let h = and_parts (is_segment part) (list_all is_segment parts) e in
+    let one = and_parts (is_word part && not (bytes_eq part (codes "."))) (not (bytes_eq part (codes ".."))) h.0 in
+    let two = and_parts (is_word part) (not (bytes_eq part (codes "."))) one.0 in
+    ap (λ b. b && are_words parts) (word_bytes part two.0) ∙ words_of parts h.1
+
+-- one byte before the first part
+onto_words : (b : ℕ) (parts : List (List ℕ)) → are_words (onto_first b parts) ≡ true → (b < 128) × (are_words parts ≡ true)
+onto_words b [] e =
+    let h = and_parts (list_all is_name_byte (b ∷ [])) true e in
+    (name_byte b (and_parts (is_name_byte b) true h.0).0, refl)
+onto_words b (part ∷ parts) e =
+    let h = and_parts (list_all is_name_byte (b ∷ part)) (are_words parts) e in
+    let one = and_parts (is_name_byte b) (list_all is_name_byte part) h.0 in
+    (name_byte b one.0, ap (λ x. x && are_words parts) one.1 ∙ h.1)
+
+split_ascii : (path : List ℕ) → are_words (slice_split (λ byte. eqb byte 47) path) ≡ true → IsAscii path
+split_ascii [] e = IsAscii-nil
+split_ascii (b ∷ bs) e = go (eqb b 47) refl e (split_ascii bs)
+  where
+    rest : List (List ℕ)
+    rest = slice_split (λ byte. eqb byte 47) bs
+
+    go : (slash : Bool) → eqb b 47 ≡ slash → are_words (cond slash ([] ∷ rest) (onto_first b rest)) ≡ true → (are_words rest ≡ true → IsAscii bs) → IsAscii (b ∷ bs)
+    go true is h more = IsAscii-cons b bs (let e : b ≡ 47 = eqb-true b 47 is in omega arith) (more h)
+    go false is h more = let w = onto_words b rest h in IsAscii-cons b bs w.0 (more w.1)
+
+pub plain_path : (path : List ℕ) → is_path path ≡ true → IsPlainName path
+unfolding is_path
+plain_path path e =
+    let h = and_parts (leb (length path) NAME_LIMIT && list_all is_segment (segments path)) (is_module_name (stem path)) e in
+    let k = and_parts (leb (length path) NAME_LIMIT) (list_all is_segment (segments path)) h.0 in
+    record { ascii = split_ascii path (words_of (segments path) k.1); short = leb-true (length path) NAME_LIMIT k.0 }
+
+pub plain_stem : (path : List ℕ) → is_path path ≡ true → IsPlainName (stem path)
+unfolding stem
+plain_stem path e =
+    let p = plain_path path e in
+    let start : ℕ = length path - suffix_len (λ byte. not (eqb byte 47)) path in
+    let end : ℕ = position_or_len (λ byte. eqb byte 46) (drop start path) in
+    record {
+      ascii = IsAscii-take (drop start path) end (IsAscii-drop path start p.ascii);
+      short = (let s = p.short in omega (arith, length-take end (drop start path), length-drop start path));
+    }
+
+-- ---- the paths of fields
+
+plain_index : (n : ℕ) → n < 2 ^ 64 → IsPlain 22 (at_index n)
+plain_index n h =
+    let digits : IsPlain 20 (decimal n) = record { ascii = IsAscii-decimal n h; short = length-decimal-le 20 n (omega arith) (omega arith) h } in
+    plain_append 21 1 (codes "[" ++ decimal n) (codes "]") (plain_append 1 20 (codes "[") (decimal n) (plain_bytes 1 (codes "[") refl (omega arith)) digits)
+    (plain_bytes 1 (codes "]") refl (omega arith))
+
+plain_part : (part : Part) → IsPlaced part → IsPlain 35 (part_name part)
+plain_part parts.Whole h = plain_bytes 35 [] refl (omega arith)
+plain_part parts.Name h = plain_bytes 35 (codes ".name") refl (omega arith)
+plain_part parts.Kind h = plain_bytes 35 (codes ".kind") refl (omega arith)
+plain_part parts.Modules h = plain_bytes 35 (codes ".modules") refl (omega arith)
+plain_part (parts.Module k) h = plain_append 13 22 (codes ".modules") (at_index k) (plain_bytes 13 (codes ".modules") refl (omega arith)) (plain_index k h)
+plain_part parts.Dependencies h = plain_bytes 35 (codes ".dependencies") refl (omega arith)
+plain_part (parts.Dependency k) h = plain_append 13 22 (codes ".dependencies") (at_index k) (plain_bytes 13 (codes ".dependencies") refl (omega arith)) (plain_index k h)
+plain_part parts.Main h = plain_bytes 35 (codes ".main") refl (omega arith)
+
+pub plain_part_path : (n : ℕ) (part : Part) → n < 2 ^ 64 → IsPlaced part → IsPlainName (part_path n part)
+unfolding part_path
+plain_part_path n part h placed =
+    plain_within 64 NAME_LIMIT _ (omega arith)
+    (plain_append 29 35 (codes "targets" ++ at_index n) (part_name part)
+    (plain_append 7 22 (codes "targets") (at_index n) (plain_bytes 7 (codes "targets") refl (omega arith)) (plain_index n h)) (plain_part part placed))
+
+-- ---- ids and addresses
+
+pub plain_id : (root name : List ℕ) → IsRoot root → is_name name ≡ true → IsPlainAddress (target_address root name)
+unfolding target_address
+plain_id root name r n =
+    plain_append 4100 255 (root ++ codes "?id=") name (plain_append 4096 4 root (codes "?id=") r (plain_bytes 4 (codes "?id=") refl (omega arith))) (plain_name name n)
+
+pub plain_document : (root path : List ℕ) → IsRoot root → is_path path ≡ true → IsPlainAddress (document_address root path)
+plain_document root path r p = plain_within 4351 4355 (root ++ path) (omega arith) (plain_append 4096 255 root path r (plain_path path p))

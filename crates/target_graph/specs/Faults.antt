@@ -1,0 +1,186 @@
+-- Which workspace files are accepted, and why others are refused.
+use Rattle.std.specs.Prelude.{◌≡◌, ◌≢◌, ℕ, ◌<◌, List, [], ◌∷◌, ◌++◌, map, length, nat_lt, codes, Option, None, Some, option_and_then, if◌then◌else◌, Contains, All, Result, Ok, Err}
+use Rattle.std.specs.Option.{option_map_or}
+use Rattle.std.specs.List.{slice_get, position_or_len, flat_map, AllPairs}
+use Rattle.std.specs.Str.{is_utf8, bytes_eq}
+use Rattle.ob_text.specs.declared.held.Held.{Held}
+use Rattle.ob_text.specs.declared.held.Held.TheVariants as helds
+use Rattle.serde_json.specs.Data.{Data}
+use Rattle.serde_json.specs.Read.{read}
+use Rattle.target_graph.specs.declared.entry.Entry.{Entry}
+use Rattle.target_graph.specs.declared.fault.FaultKind.{FaultKind}
+use Rattle.target_graph.specs.declared.fault.FaultKind.TheVariants as kinds
+use Rattle.target_graph.specs.declared.fault.WorkspaceRefusal.{WorkspaceRefusal}
+use Rattle.target_graph.specs.declared.fault.WorkspaceRefusal.TheVariants as refusals
+use Rattle.target_graph.specs.declared.listing.TheConstants.{TARGET_LIMIT, PAIR_LIMIT, DEPENDENCY_LIMIT}
+use Rattle.target_graph.specs.declared.target.Target.{Target}
+use Rattle.target_graph.specs.File.{entries_of, file_fields, first_bad}
+use Rattle.target_graph.specs.Names.{IsPlainName}
+use Rattle.target_graph.specs.Workspace.{Space, Circles, Sees, stem_at}
+
+-- ---- what a file says
+
+abbrev pub text_in : Held → Option (List ℕ)
+text_in (helds.Text text) = Some text
+text_in helds.Absent = None
+text_in helds.TooLarge = None
+text_in helds.NotText = None
+
+abbrev pub json_of : List ℕ → Option Data
+json_of text = if is_utf8 text then read text else None
+
+abbrev pub value_in : Held → Option Data
+value_in held = option_and_then json_of (text_in held)
+
+-- what the file says of its targets, where it says anything
+unfoldable pub entries_in : Held → List Entry
+entries_in held = option_map_or entries_of (value_in held) []
+
+abbrev pub names_of : List Entry → List (List ℕ)
+names_of entries = map (λ entry. entry.name) entries
+
+abbrev pub modules_of : List Entry → List (List ℕ)
+modules_of entries = flat_map (λ entry. entry.modules) entries
+
+abbrev pub dependencies_of : List Entry → List (List ℕ)
+dependencies_of entries = flat_map (λ entry. entry.dependencies) entries
+
+-- the place of a name
+abbrev pub place_of : List (List ℕ) → List ℕ → ℕ
+place_of names name = position_or_len (bytes_eq name) names
+
+-- a target, its dependencies by their places
+abbrev pub target_of : List (List ℕ) → Entry → Target
+target_of names entry = record {
+  name = entry.name;
+  kind = entry.kind;
+  modules = entry.modules;
+  dependencies = map (place_of names) entry.dependencies;
+  main = entry.main;
+}
+
+abbrev pub targets_of : List Entry → List Target
+targets_of entries = map (target_of (names_of entries)) entries
+
+abbrev pub targets_in : Held → List Target
+targets_in held = targets_of (entries_in held)
+
+-- ---- faults
+
+-- of what there are too many
+abbrev pub too_many : List Entry → Option (List ℕ)
+too_many entries =
+    if nat_lt TARGET_LIMIT (length entries) then Some (codes "targets") else
+    if nat_lt PAIR_LIMIT (length (modules_of entries)) then Some (codes "modules") else
+    if nat_lt DEPENDENCY_LIMIT (length (dependencies_of entries)) then Some (codes "dependencies") else None
+
+-- the first name that an earlier one equals
+pub record IsFirstRepeat (names : List (List ℕ)) (name : List ℕ) : Type 0 where
+  pub before : List (List ℕ)
+  pub after : List (List ℕ)
+  pub whole : names ≡ before ++ name ∷ after
+  pub seen : Contains before name
+  pub fresh : AllPairs ◌≢◌ before
+
+-- the first dependency that is no name of a target
+pub record IsFirstUnknown (names dependencies : List (List ℕ)) (name : List ℕ) : Type 0 where
+  pub before : List (List ℕ)
+  pub after : List (List ℕ)
+  pub whole : dependencies ≡ before ++ name ∷ after
+  pub unknown : ¬ (Contains names name)
+  pub known : All (Contains names) before
+
+-- the name of the first target that depends on itself
+pub record IsFirstCycle (targets : List Target) (name : List ℕ) : Type 0 where
+  pub place : ℕ
+  pub target : Target
+  pub there : slice_get targets place ≡ Some target
+  pub named : target.name ≡ name
+  pub circles : Circles targets place
+  pub first : (earlier : ℕ) → earlier < place → ¬ (Circles targets earlier)
+
+-- a pair that the target sees has the stem of an earlier one
+pub record IsRepeat (targets : List Target) (place q : ℕ) : Type 0 where
+  pub earlier : ℕ
+  pub before : earlier < q
+  pub sees_earlier : Sees targets place earlier
+  pub sees : Sees targets place q
+  pub same : stem_at targets earlier ≡ stem_at targets q
+
+-- the stem of the first pair that has an earlier one's stem, for the first target that sees two such pairs
+pub record IsFirstStemTwice (targets : List Target) (name : List ℕ) : Type 0 where
+  pub place : ℕ
+  pub pair : ℕ
+  pub repeats : IsRepeat targets place pair
+  pub named : stem_at targets pair ≡ name
+  pub first_pair : (q : ℕ) → q < pair → ¬ (IsRepeat targets place q)
+  pub first_target : (earlier : ℕ) → earlier < place → (q : ℕ) → ¬ (IsRepeat targets earlier q)
+
+-- The fault stands in the file, and is about this name.
+abbrev pub IsFault : Held → FaultKind → List ℕ → Type 0
+IsFault held kinds.NoFile name = (text_in held ≡ None) × (name ≡ [])
+IsFault held kinds.BadJson name = (value_in held ≡ None) × (name ≡ [])
+IsFault held kinds.BadField name = option_and_then (λ d. first_bad (file_fields d)) (value_in held) ≡ Some name
+IsFault held kinds.TooMany name = too_many (entries_in held) ≡ Some name
+IsFault held kinds.NameTwice name = IsFirstRepeat (names_of (entries_in held)) name
+IsFault held kinds.UnknownDependency name = IsFirstUnknown (names_of (entries_in held)) (dependencies_of (entries_in held)) name
+IsFault held kinds.DependencyCycle name = IsFirstCycle (targets_in held) name
+IsFault held kinds.StemTwice name = IsFirstStemTwice (targets_in held) name
+
+-- the order in which faults are looked for
+abbrev pub rank : FaultKind → ℕ
+rank kinds.NoFile = 0
+rank kinds.BadJson = 1
+rank kinds.BadField = 2
+rank kinds.TooMany = 3
+rank kinds.NameTwice = 4
+rank kinds.UnknownDependency = 5
+rank kinds.DependencyCycle = 6
+rank kinds.StemTwice = 7
+
+-- no fault of a lower rank stands in the file
+abbrev pub Passed : Held → ℕ → Type 0
+Passed held limit = (earlier : FaultKind) (other : List ℕ) → rank earlier < limit → ¬ (IsFault held earlier other)
+
+-- The file is refused by the first of its faults.
+pub record Refused (held : Held) (kind : FaultKind) (name : List ℕ) : Type 0 where
+  pub fault : IsFault held kind name
+  pub first : Passed held (rank kind)
+
+-- The file has no fault, and this is the workspace at this root.
+pub record Accepted (held : Held) (root : List ℕ) (space : Space) : Type 0 where
+  pub faultless : (kind : FaultKind) (name : List ℕ) → ¬ (IsFault held kind name)
+  pub at_root : space.root ≡ root
+  pub all_targets : space.targets ≡ targets_in held
+
+-- a refusal gives the first fault; want of memory says nothing
+abbrev pub IsRefusal : Held → WorkspaceRefusal → Type 0
+IsRefusal held (refusals.Fault fault) = Refused held fault.kind fault.name
+IsRefusal held refusals.NoMemory = Unit {0}
+
+-- what a refusal names is plain
+abbrev pub HasPlainName : WorkspaceRefusal → Type 0
+HasPlainName (refusals.Fault fault) = IsPlainName fault.name
+HasPlainName refusals.NoMemory = Unit {0}
+
+-- an index of these names: no two are equal
+pub record IsIndex (keys names : List (List ℕ)) : Type 0 where
+  pub same : keys ≡ names
+  pub distinct : AllPairs ◌≢◌ names
+
+-- these are the targets, and each dependency is one of them
+pub record IsResolved (names : List (List ℕ)) (entries : List Entry) (targets : List Target) : Type 0 where
+  pub each : targets ≡ map (target_of names) entries
+  pub known : All (Contains names) (dependencies_of entries)
+
+-- ---- a step of reading, which looks for faults of one kind
+
+abbrev pub Looks : {T : Type 0} → Result T WorkspaceRefusal → FaultKind → (List ℕ → Type 0) → (T → Type 0) → Type 0
+Looks (Ok x) kind IsBad IsGood = IsGood x × ((name : List ℕ) → ¬ (IsBad name))
+Looks (Err (refusals.Fault fault)) kind IsBad IsGood = (fault.kind ≡ kind) × IsBad fault.name
+Looks (Err refusals.NoMemory) kind IsBad IsGood = Unit {0}
+
+-- the refusal has this kind and this name
+abbrev pub IsAbout : WorkspaceRefusal → FaultKind → List ℕ → Type 0
+IsAbout (refusals.Fault fault) kind name = (fault.kind ≡ kind) × (fault.name ≡ name)
+IsAbout refusals.NoMemory kind name = Unit {0}

@@ -1,0 +1,32 @@
+-- What a workspace keeps beside its targets: their names, the stems of their modules, and what each target sees.
+use Rattle.std.specs.Prelude.{◌≡◌, ◌≢◌, ℕ, ◌≤◌, List, length, map}
+use Rattle.std.specs.List.{AllPairs}
+use Rattle.target_graph.specs.declared.listing.TheConstants.{TARGET_LIMIT, PAIR_LIMIT}
+use Rattle.target_graph.specs.declared.reading.Listing.{Listing}
+use Rattle.target_graph.specs.declared.target.Target.{Target}
+use Rattle.target_graph.specs.declared.workspace.Workspace.TheInside.{Inside}
+use Rattle.target_graph.specs.Table.{IsNumbering, IsTable, lists}
+use Rattle.target_graph.specs.Walk.{AreClosed}
+use Rattle.target_graph.specs.Workspace.{Space, pairs_of, stems_of, AreValid}
+
+abbrev pub space : Inside → Space
+space w = record { root = w.root; targets = w.targets.items }
+
+-- what a listing has to be, for a workspace to be made of it
+pub record IsSoundOf (keys : List (List ℕ)) (targets : List Target) : Type 0 where
+  pub closed : AreClosed targets
+  pub valid : AreValid targets
+  pub few : length targets ≤ TARGET_LIMIT
+  pub few_pairs : length (pairs_of targets) ≤ PAIR_LIMIT
+  pub names : keys ≡ map (λ target. target.name) targets
+  pub distinct : AllPairs ◌≢◌ keys
+
+abbrev pub IsSound : Listing → Type 0
+IsSound listing = IsSoundOf listing.names.keys listing.targets.items
+
+pub record IsKept (w : Inside) : Type 0 where
+  pub sound : IsSoundOf w.names.keys w.targets.items
+  pub pairs : w.pairs.items ≡ pairs_of w.targets.items
+  pub numbers : List ℕ
+  pub numbered : IsNumbering (stems_of (pairs_of w.targets.items)) w.stems.keys numbers
+  pub table : IsTable w.targets.items numbers (length w.stems.keys) (lists w.rows)

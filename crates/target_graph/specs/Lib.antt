@@ -1,0 +1,13 @@
+pub mod Address
+pub mod Faults
+pub mod File
+pub mod Kept
+pub mod Listers
+pub mod Listing
+pub mod Met
+pub mod Names
+pub mod Plain
+pub mod Root
+pub mod Table
+pub mod Walk
+pub mod Workspace

@@ -1,0 +1,110 @@
+ghost use Rattle.std.specs.Prelude.{◌≡◌, ◌≤◌, None, Some, IfOk, IsAscii, length};
+ghost use Rattle.url.specs.Parts.{serialize};
+ghost use Rattle.url.specs.Parser.{Gives, parse_url};
+ghost use Rattle.target_graph.specs.Address.{root_at, root_of_url, with_slash, within_limit};
+
+use ob_text::{NoMemory, Text};
+use std::alloc::Global;
+use std::marker::Model;
+use url::{ParseError, Url};
+
+/// The most bytes of a `rootUri`, and of the root that is made of it.
+pub const ROOT_LIMIT: usize = 4_096;
+
+/// The address of a workspace's folder. It ends in a slash.
+#[derive(Debug, Drop)]
+pub struct Root {
+    text: Text,
+}
+
+impl Model for Root {
+    ghost use Rattle.std.specs.Prelude.{ℕ, List};
+    ghost use Rattle.target_graph.specs.Root.{IsRoot};
+
+    ghost Value = { List ℕ };
+
+    ghost view = { λ root. root.text };
+
+    ghost invariant = { λ root. IsRoot root.text };
+}
+
+impl Root {
+    ghost use Rattle.target_graph.specs.Root.{IsRoot};
+
+    pub fn as_slice(&self) -> &[u8]
+        ensures text { result.now ≡ self.now }
+        ensures root { IsRoot self.now }
+    {
+        self.text.as_slice()
+    }
+}
+
+/// Why an address is no root.
+#[derive(Clone, Copy, Debug, PartialEq, Eq)]
+pub enum RootFault {
+    /// It isn't an address of a folder, or its root is longer than `ROOT_LIMIT`.
+    BadRoot,
+    NoMemory,
+}
+
+impl From<NoMemory> for RootFault {
+    ghost use Rattle.std.specs.Prelude.{◌≡◌};
+    ghost use Rattle.target_graph.specs.declared.root.RootFault.TheVariants as faults;
+
+    ghost from_gives = { λ _ fault. fault ≡ faults.NoMemory };
+
+    fn from(_error: NoMemory) -> RootFault {
+        RootFault::NoMemory
+    }
+}
+
+/// The root at a `rootUri` (Build Server Protocol 2.2, InitializeBuildParams).
+#[tactic(auto, unfolding(crate::specs::Address::root_at))]
+pub fn root_of(alloc: Global, text: &str) -> Result<Root, RootFault>
+    requires { length text.now ≤ ROOT_LIMIT }
+    ensures root { IfOk result (λ root. root_at text.now ≡ Some root) }
+    ensures bad { result ≡ Err RootFault.BadRoot → root_at text.now ≡ None }
+{
+    match Url::parse(alloc, text) {
+        Ok(url) => root_of_url(alloc, &url),
+        Err(ParseError::OutOfMemory | ParseError::Overflow) => Err(RootFault::NoMemory),
+        Err(_) => Err(RootFault::BadRoot),
+    }
+}
+
+fn root_of_url(alloc: Global, url: &Url) -> Result<Root, RootFault>
+    ensures root { IfOk result (λ root. root_of_url url.now ≡ Some root) }
+    ensures bad { result ≡ Err RootFault.BadRoot → root_of_url url.now ≡ None }
+{
+    if url.cannot_be_a_base() || url.query().is_some() || url.fragment().is_some() {
+        return Err(RootFault::BadRoot);
+    }
+    let text = with_slash(alloc, url.as_str())?;
+    within_limit(text)
+}
+
+/// The text with a slash at its end.
+fn with_slash(alloc: Global, text: &str) -> Result<Vec<u8>, NoMemory>
+    requires { IsAscii text.now }
+    ensures text { IfOk result (λ bytes. bytes.items ≡ with_slash text.now) }
+    ensures ascii { IfOk result (λ bytes. IsAscii bytes.items) }
+{
+    let mut bytes = Vec::from_slice(alloc, text.as_bytes())?;
+    if bytes.last().copied() != Some(b'/') {
+        bytes.push(b'/')?;
+    }
+    Ok(bytes)
+}
+
+fn within_limit(text: Vec<u8>) -> Result<Root, RootFault>
+    requires { IsAscii text.items }
+    ensures root { IfOk result (λ root. within_limit text.items ≡ Some root) }
+    ensures bad { result ≡ Err RootFault.BadRoot → within_limit text.items ≡ None }
+{
+    if text.len() > ROOT_LIMIT {
+        return Err(RootFault::BadRoot);
+    }
+    Ok(Root {
+        text: Text::from_vec(text),
+    })
+}

@@ -1,0 +1,243 @@
+ghost use Rattle.std.specs.Prelude.{◌≡◌, ◌≢◌, ◌<◌, ◌≤◌, ℕ, length, Some, IfOk, IfErr, IfSome, IfNone, All};
+ghost use Rattle.std.specs.List.{AllPairs};
+ghost use Rattle.target_graph.specs.Address.{document_address, IsPlainAddress};
+ghost use Rattle.target_graph.specs.Faults.{Accepted, IsRefusal, HasPlainName, Passed};
+ghost use Rattle.target_graph.specs.Kept.{IsSound};
+ghost use Rattle.target_graph.specs.Listing.{IsListing, Accepts};
+ghost use Rattle.target_graph.specs.Walk.{AreClosed};
+ghost use Rattle.target_graph.specs.Workspace.{pairs_of, id_of, path_at, named, with_id, AreValid, IsClosure, IsVisible, Names, IsInverse};
+ghost use Rattle.ob_text.specs.declared.held.Held.{Held};
+
+use crate::address::{behind, joined, listing, printed};
+use crate::fault::WorkspaceRefusal;
+use crate::listing::{PAIR_LIMIT, TARGET_LIMIT, place_of};
+use crate::pairs::pairs_of;
+use crate::reading::{Listing, read_file};
+use crate::root::Root;
+use crate::table::{number, table};
+use crate::target::{Pair, Target};
+use crate::walk::{check_cycles, marked, reached};
+use indexmap::IndexSet;
+use ob_text::{Held, Name, NoMemory, Text};
+use std::alloc::Global;
+use std::marker::Model;
+
+/// What stands between the root and a target's name in the target's id.
+const ID_MARK: &[u8] = b"?id=";
+
+/// An accepted workspace file, with the root that its addresses are made of.
+#[derive(Drop)]
+pub struct Workspace {
+    alloc: Global,
+    root: Root,
+    targets: Vec<Target>,
+    pairs: Vec<Pair>,
+    names: IndexSet<Name>,
+    stems: IndexSet<Name>,
+    rows: Vec<Vec<Option<u32>>>,
+}
+
+impl Model for Workspace {
+    ghost use Rattle.target_graph.specs.Workspace.{Space};
+    ghost use Rattle.target_graph.specs.Kept.{space, IsKept};
+
+    ghost Value = { Space };
+
+    ghost view = { space };
+
+    ghost invariant = { IsKept };
+}
+
+impl Workspace {
+    /// Reads a workspace file, `oberon-build.json`.
+    pub fn read(alloc: Global, file: &Held, root: Root) -> Result<Workspace, WorkspaceRefusal>
+        ensures accepted { IfOk result (Accepted file.now root) }
+        ensures refused { IfErr result (IsRefusal file.now) }
+        ensures plain { IfErr result HasPlainName }
+    {
+        match read_file(alloc, file) {
+            Ok(listing) => Workspace::of_listing(alloc, root, listing),
+            Err(refusal) => Err(refusal),
+        }
+    }
+
+    fn of_listing(
+        alloc: Global,
+        root: Root,
+        listing: Listing,
+    ) -> Result<Workspace, WorkspaceRefusal>
+        requires { IsSound listing }
+        ensures { (held : Held) → IsListing held listing → Accepts held root result }
+    {
+        match check_cycles(alloc, listing.targets.as_slice()) {
+            Ok(()) => Workspace::of_acyclic(alloc, root, listing),
+            Err(refusal) => Err(refusal),
+        }
+    }
+
+    fn of_acyclic(
+        alloc: Global,
+        root: Root,
+        listing: Listing,
+    ) -> Result<Workspace, WorkspaceRefusal>
+        requires { IsSound listing }
+        ensures { (held : Held) → IsListing held listing → Passed held 7 → Accepts held root
+            result }
+    {
+        let Listing { names, targets } = listing;
+        let Ok(pairs) = pairs_of(alloc, targets.as_slice()) else {
+            return Err(WorkspaceRefusal::NoMemory);
+        };
+        let mut stems = IndexSet::new(alloc);
+        let Ok(numbers) = number(alloc, &mut stems, pairs.as_slice()) else {
+            return Err(WorkspaceRefusal::NoMemory);
+        };
+        match table(
+            alloc,
+            targets.as_slice(),
+            pairs.as_slice(),
+            numbers.as_slice(),
+            stems.len(),
+        ) {
+            Ok(rows) => Ok(Workspace {
+                alloc,
+                root,
+                targets,
+                pairs,
+                names,
+                stems,
+                rows,
+            }),
+            Err(refusal) => Err(refusal),
+        }
+    }
+
+    /// The targets, in the order of the file.
+    pub fn targets(&self) -> &[Target]
+        ensures targets { result.now ≡ self.now.targets }
+        ensures few { length result.now ≤ TARGET_LIMIT }
+        // Each dependency is the place of a target.
+        ensures closed { AreClosed result.now }
+        // Each name is a target's name, and each path is a module's path, as `stem_of` wants it.
+        ensures valid { AreValid result.now }
+    {
+        self.targets.as_slice()
+    }
+
+    /// The pairs of a target and one of its modules, in the order of the file.
+    pub fn pairs(&self) -> &[Pair]
+        ensures pairs { result.now ≡ pairs_of self.now.targets }
+        ensures few { length result.now ≤ PAIR_LIMIT }
+        ensures within { All (λ pair. pair.target < length self.now.targets) result.now }
+        // Two with one address of their documents have different ids of their targets.
+        ensures distinct { AllPairs (λ p q. document_address self.now.root p.path
+            ≡ document_address self.now.root q.path → id_of self.now p.target
+            ≢ id_of self.now q.target) result.now }
+    {
+        self.pairs.as_slice()
+    }
+
+    /// The targets to which some lead, in the order of the file: these and all that they depend on.
+    pub fn closure(&self, targets: &[u32]) -> Result<Vec<u32>, NoMemory>
+        requires { All (λ target. target < length self.now.targets) targets.now }
+        ensures closure { IfOk result (λ closure. IsClosure self.now.targets targets.now
+            closure.items) }
+        ensures within { IfOk result (λ closure. All (λ target. target < length
+            self.now.targets) closure.items) }
+    {
+        let marks = reached(self.alloc, self.targets.as_slice(), targets)?;
+        marked(self.alloc, marks.as_slice())
+    }
+
+    /// The pair that a name means to the modules of a target. Takes no memory.
+    pub fn visible(&self, target: u32, name: &Name) -> Option<u32>
+        requires { target < length self.now.targets }
+        ensures some { IfSome result (IsVisible self.now.targets target name.now) }
+        ensures none { IfNone result ((pair : ℕ) → ¬ (IsVisible self.now.targets target name.now
+            pair)) }
+    {
+        match self.stems.get_index_of(name) {
+            Some(number) => self.rows[target as usize][number],
+            None => None,
+        }
+    }
+
+    /// The id of a target: the root, `?id=` and the target's name.
+    pub fn target_id(&self, target: u32) -> Result<Text, NoMemory>
+        requires { target < length self.now.targets }
+        ensures id { IfOk result (λ id. id ≡ id_of self.now target) }
+        ensures plain { IfOk result IsPlainAddress }
+    {
+        let name = self.targets[target as usize].name.as_slice();
+        joined(self.alloc, self.root.as_slice(), ID_MARK, name)
+    }
+
+    /// The address of a pair's document: the root and the path.
+    pub fn document_of(&self, pair: u32) -> Result<Text, NoMemory>
+        requires { pair < length (pairs_of self.now.targets) }
+        ensures address { IfOk result (λ text. text ≡ document_address self.now.root (path_at
+            self.now.targets pair)) }
+        ensures plain { IfOk result IsPlainAddress }
+    {
+        let path = self.pairs[pair as usize].path.as_slice();
+        joined(self.alloc, self.root.as_slice(), b"", path)
+    }
+
+    /// The target whose id an address is. An address counts as it is spelled, or as `url` prints
+    /// it.
+    #[tactic(auto, unfolding(crate::specs::Workspace::named))]
+    pub fn target_named(&self, uri: &str) -> Result<Option<u32>, NoMemory>
+        ensures some { IfOk result (λ found. IfSome found (Names self.now uri.now)) }
+        ensures none { IfOk result (λ found. IfNone found ((target : ℕ) → ¬ (Names self.now
+            uri.now target))) }
+        // The id as it is spelled goes first.
+        ensures named { IfOk result (λ found. found ≡ named self.now uri.now) }
+    {
+        if let Some(target) = self.target_at(uri.as_bytes())? {
+            return Ok(Some(target));
+        }
+        match printed(self.alloc, uri)? {
+            Some(text) => self.target_at(text.as_slice()),
+            None => Ok(None),
+        }
+    }
+
+    /// The target whose id is this text.
+    fn target_at(&self, text: &[u8]) -> Result<Option<u32>, NoMemory>
+        ensures some { IfOk result (λ found. IfSome found (λ target. (target < length
+            self.now.targets) × (id_of self.now target ≡ text.now))) }
+        ensures none { IfOk result (λ found. IfNone found ((target : ℕ) → target < length
+            self.now.targets → id_of self.now target ≢ text.now)) }
+        ensures one { IfOk result (λ found. (target : ℕ) → target < length self.now.targets →
+            id_of self.now target ≡ text.now → found ≡ Some target) }
+        ensures named { IfOk result (λ found. found ≡ with_id self.now text.now) }
+    {
+        let Some(rest) = behind(text, self.root.as_slice()) else {
+            return Ok(None);
+        };
+        let Some(name) = behind(rest, ID_MARK) else {
+            return Ok(None);
+        };
+        let name = Name::new(self.alloc, name)?;
+        Ok(place_of(&self.names, &name))
+    }
+
+    /// The targets that list a document themselves, in the order of the file. An address counts as
+    /// it is
+    /// spelled, or as `url` prints it; one that is no document's has none.
+    pub fn inverse(&self, uri: &str) -> Result<Vec<u32>, NoMemory>
+        ensures { IfOk result (λ targets. IsInverse self.now uri.now targets.items) }
+    {
+        let printed = printed(self.alloc, uri)?;
+        let own = behind(uri.as_bytes(), self.root.as_slice());
+        match &printed {
+            Some(text) => listing(
+                self.alloc,
+                self.targets.as_slice(),
+                own,
+                behind(text.as_slice(), self.root.as_slice()),
+            ),
+            None => listing(self.alloc, self.targets.as_slice(), own, None),
+        }
+    }
+}
