@@ -1,3 +1,5 @@
 pub mod ListLaws
 pub mod ShownLaws
 pub mod ExactLaws
+pub mod PathLaws
+pub mod ShortLaws

@@ -1,5 +1,7 @@
 pub mod Shapes
 pub mod Reading
+pub mod Paths
+pub mod Short
 pub mod Writing
 pub mod Identifiers
 pub mod Diagnostics

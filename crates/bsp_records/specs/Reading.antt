@@ -20,7 +20,13 @@ ReadBy IsRead IsBad (Ok x) = IsRead x
 ReadBy IsRead IsBad (Err (At path)) = IsBad path
 ReadBy IsRead IsBad (Err NoMemory) = Unit {0}
 
--- the same, for a part of a value that is bad at this place, if at any, and that else stands for this
+-- what is said of the path of a refusal
+abbrev pub IfBad : {A : Type 0} → Result A BadParams → (List ℕ → Type 0) → Type 0
+IfBad (Ok x) Said = Unit {0}
+IfBad (Err (At path)) Said = Said path
+IfBad (Err NoMemory) Said = Unit {0}
+
+-- a read of a part of a value that is bad at this place, if at any, and that else stands for this
 abbrev pub Reads : {A : Type 0} → Option (List ℕ) → A → Result A BadParams → Type 0
 Reads found x result = ReadBy (λ y. (found ≡ None) × (y ≡ x)) (λ path. found ≡ Some path) result
 

@@ -25,3 +25,8 @@ published p table document target =
 abbrev pub table_after : List PublishDiagnosticsParams → Table
 table_after [] = nothing_shown
 table_after (p ∷ past) = published p (table_after past)
+
+-- a table once these lists were published, the first of them first
+abbrev pub table_with : List PublishDiagnosticsParams → Table → Table
+table_with [] table = table
+table_with (p ∷ ps) table = table_with ps (published p table)

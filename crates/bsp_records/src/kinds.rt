@@ -1,7 +1,7 @@
-ghost use Rattle.std.specs.Prelude.{◌≡◌, IfOk};
+ghost use Rattle.std.specs.Prelude.{◌≡◌, [], IfOk};
 ghost use Rattle.std.specs.Str.{IsUtf8};
 ghost use Rattle.bsp_records.specs.Shapes.{bad, label, label_in, text, text_in, text_within, IsTextWithin};
-ghost use Rattle.bsp_records.specs.Reading.{Reads};
+ghost use Rattle.bsp_records.specs.Reading.{Reads, IfBad};
 ghost use Rattle.serde_json.specs.View.{view};
 
 use crate::bad_params::BadParams;
@@ -109,6 +109,7 @@ fn read_within<K>(alloc: Global, value: &Value, limit: usize) -> Result<Bytes<K>
     ensures read { Reads (bad (text_within limit) (view value.now)) (text_in (view value.now))
         result }
     ensures texts { IfOk result (IsTextWithin limit) }
+    ensures path { IfBad result (λ path. path ≡ []) }
 {
     match value.as_str() {
         Some(text) => if text.len() <= limit {

@@ -16,7 +16,7 @@ mod shown;
 mod tasks;
 mod writing;
 
-pub use bad_params::BadParams;
+pub use bad_params::{BadParams, PATH_LIMIT};
 pub use diagnostics::{DiagnosticRecord, DiagnosticSeverity};
 pub use identifiers::{BuildTargetIdentifier, TextDocumentIdentifier};
 pub use kinds::{ORIGIN_LIMIT, ROOT_LIMIT};

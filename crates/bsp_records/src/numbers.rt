@@ -1,8 +1,8 @@
-ghost use Rattle.std.specs.Prelude.{⊤, ◌≡◌, ◌≤◌, ◌^◌, IfOk};
+ghost use Rattle.std.specs.Prelude.{⊤, ◌≡◌, [], ◌≤◌, ◌^◌, IfOk};
 ghost use Rattle.serde_json.specs.Data.{number, unsigned};
 ghost use Rattle.serde_json.specs.View.{view};
 ghost use Rattle.bsp_records.specs.Shapes.{count, whole, whole_in, bad};
-ghost use Rattle.bsp_records.specs.Reading.{Reads};
+ghost use Rattle.bsp_records.specs.Reading.{Reads, IfBad};
 
 use crate::bad_params::BadParams;
 use crate::reading::{Read, bad_here};
@@ -18,7 +18,8 @@ pub(crate) fn read_whole(
     low: u32,
     high: u32,
 ) -> Result<u32, BadParams>
-    ensures { Reads (bad (whole low high) (view value.now)) (whole_in (view value.now)) result }
+    ensures read { Reads (bad (whole low high) (view value.now)) (whole_in (view value.now)) result }
+    ensures path { IfBad result (λ path. path ≡ []) }
 {
     match value.as_u64() {
         Some(number) => if u64::from(low) <= number && number <= u64::from(high) {

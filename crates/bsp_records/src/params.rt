@@ -1,9 +1,10 @@
-ghost use Rattle.std.specs.Prelude.{codes, IfOk, IfSome};
+ghost use Rattle.std.specs.Prelude.{◌+◌, ◌≤◌, codes, length, suc, IfOk, IfSome};
 ghost use Rattle.std.specs.List.{All};
-ghost use Rattle.std.specs.Str.{IsUtf8};
+ghost use Rattle.std.specs.Str.{IsAscii, IsUtf8};
 ghost use Rattle.serde_json.specs.View.{view};
 ghost use Rattle.bsp_records.specs.Params.{client_capabilities, client_capabilities_in, initialize_params, initialize_params_in, targets_params, sources_params_in, clean_cache_params_in, inverse_sources_params, inverse_sources_params_in, build_params, compile_params_in, test_params_in, run_params, run_params_in, IsTarget, IsInitializeParams, BadInitializeParams, IsInverseSourcesParams, BadInverseSourcesParams, IsSourcesParams, BadSourcesParams, IsCleanCacheParams, BadCleanCacheParams, IsCompileParams, BadCompileParams, IsTestParams, BadTestParams, IsRunParams, BadRunParams, HasInitializeTexts, HasCompileTexts, HasTestTexts, HasRunTexts};
-ghost use Rattle.bsp_records.specs.Reading.{ReadBy, Reads, if_there};
+ghost use Rattle.bsp_records.specs.Paths.{longest, IsPlainPath};
+ghost use Rattle.bsp_records.specs.Reading.{ReadBy, Reads, IfBad, if_there};
 ghost use Rattle.bsp_records.specs.Shapes.{at, bad, bad_if_there, text, text_in, text_within, list_of, member_step, under, IsTextWithin};
 
 use crate::bad_params::BadParams;
@@ -78,6 +79,7 @@ pub fn read_initialize_params(alloc: Global, value: &Value) -> Result<Initialize
     ensures read { ReadBy (IsInitializeParams (view value.now))
         (BadInitializeParams (view value.now)) result }
     ensures texts { IfOk result HasInitializeTexts }
+    ensures path { IfBad result IsPlainPath }
 {
     read_params(alloc, value)
 }
@@ -87,6 +89,7 @@ pub fn read_sources_params(alloc: Global, value: &Value) -> Result<SourcesParams
     ensures read { ReadBy (IsSourcesParams (view value.now))
         (BadSourcesParams (view value.now)) result }
     ensures texts { IfOk result (λ p. All IsTarget p.targets) }
+    ensures path { IfBad result IsPlainPath }
 {
     read_params(alloc, value)
 }
@@ -96,6 +99,7 @@ pub fn read_clean_cache_params(alloc: Global, value: &Value) -> Result<CleanCach
     ensures read { ReadBy (IsCleanCacheParams (view value.now))
         (BadCleanCacheParams (view value.now)) result }
     ensures texts { IfOk result (λ p. All IsTarget p.targets) }
+    ensures path { IfBad result IsPlainPath }
 {
     read_params(alloc, value)
 }
@@ -108,6 +112,7 @@ pub fn read_inverse_sources_params(
     ensures read { ReadBy (IsInverseSourcesParams (view value.now))
         (BadInverseSourcesParams (view value.now)) result }
     ensures texts { IfOk result (λ p. IsUtf8 p.text_document.uri) }
+    ensures path { IfBad result IsPlainPath }
 {
     read_params(alloc, value)
 }
@@ -117,6 +122,7 @@ pub fn read_compile_params(alloc: Global, value: &Value) -> Result<CompileParams
     ensures read { ReadBy (IsCompileParams (view value.now))
         (BadCompileParams (view value.now)) result }
     ensures texts { IfOk result HasCompileTexts }
+    ensures path { IfBad result IsPlainPath }
 {
     read_params(alloc, value)
 }
@@ -125,6 +131,7 @@ pub fn read_compile_params(alloc: Global, value: &Value) -> Result<CompileParams
 pub fn read_test_params(alloc: Global, value: &Value) -> Result<TestParams, BadParams>
     ensures read { ReadBy (IsTestParams (view value.now)) (BadTestParams (view value.now)) result }
     ensures texts { IfOk result HasTestTexts }
+    ensures path { IfBad result IsPlainPath }
 {
     read_params(alloc, value)
 }
@@ -133,6 +140,7 @@ pub fn read_test_params(alloc: Global, value: &Value) -> Result<TestParams, BadP
 pub fn read_run_params(alloc: Global, value: &Value) -> Result<RunParams, BadParams>
     ensures read { ReadBy (IsRunParams (view value.now)) (BadRunParams (view value.now)) result }
     ensures texts { IfOk result HasRunTexts }
+    ensures path { IfBad result IsPlainPath }
 {
     read_params(alloc, value)
 }
@@ -142,13 +150,18 @@ fn read_origin(alloc: Global, value: &Value) -> Result<Option<Text>, BadParams>
         (bad_if_there (bad (text_within ORIGIN_LIMIT)) (at (codes "originId") (view value.now))))
         (if_there text_in (at (codes "originId") (view value.now))) result }
     ensures texts { IfOk result (λ origin. IfSome origin (IsTextWithin ORIGIN_LIMIT)) }
+    ensures ascii { IfBad result IsAscii }
+    ensures short { IfBad result (λ path. length path ≤ suc (length (codes "originId"))) }
 {
     Ok(plain(optional::<Bytes<OriginKind>>(alloc, value, "originId")?))
 }
 
 fn look_at_arguments(alloc: Global, value: &Value) -> Result<(), BadParams>
-    ensures { Reads (under (member_step (codes "arguments"))
+    ensures read { Reads (under (member_step (codes "arguments"))
         (bad_if_there (bad (list_of text)) (at (codes "arguments") (view value.now)))) tt result }
+    ensures ascii { IfBad result IsAscii }
+    ensures short { IfBad result (λ path. length path
+        ≤ suc (length (codes "arguments")) + longest (list_of text)) }
 {
     match optional::<Items<AnyText>>(alloc, value, "arguments") {
         Ok(_arguments) => Ok(()),

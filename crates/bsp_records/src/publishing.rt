@@ -1,8 +1,10 @@
-ghost use Rattle.std.specs.Prelude.{◌≡◌, false, IfOk};
+ghost use Rattle.std.specs.Prelude.{◌≡◌, ◌≤◌, false, length, IfOk};
 ghost use Rattle.serde_json.specs.View.{view};
-ghost use Rattle.serde_json.specs.Written.{has_float};
+ghost use Rattle.serde_json.specs.Written.{compact_text, has_float};
 ghost use Rattle.bsp_records.specs.Diagnostics.{publish_diagnostics_params, publish_diagnostics_params_in, publish_diagnostics_params_data, HasPublishTexts, IsPublishDiagnosticsParams, BadPublishDiagnosticsParams};
-ghost use Rattle.bsp_records.specs.Reading.{ReadBy};
+ghost use Rattle.bsp_records.specs.Paths.{IsPlainPath};
+ghost use Rattle.bsp_records.specs.Reading.{ReadBy, IfBad};
+ghost use Rattle.bsp_records.specs.Short.{IsShortPublication, publication_limit};
 
 use crate::bad_params::BadParams;
 use crate::diagnostics::DiagnosticRecord;
@@ -32,11 +34,14 @@ pub fn read_publish_diagnostics_params(
     ensures read { ReadBy (IsPublishDiagnosticsParams (view value.now))
         (BadPublishDiagnosticsParams (view value.now)) result }
     ensures texts { IfOk result HasPublishTexts }
+    ensures path { IfBad result IsPlainPath }
 {
     read_params(alloc, value)
 }
 
-/// Writes the params of build/publishDiagnostics.
+/// Writes the params of build/publishDiagnostics. Those of a short publication print in a part of a
+/// frame.
+#[tactic(auto, using(crate::proofs::ShortLaws::prints_short))]
 pub fn write_publish_diagnostics_params(
     alloc: Global,
     params: &PublishDiagnosticsParams,
@@ -44,6 +49,8 @@ pub fn write_publish_diagnostics_params(
     requires { HasPublishTexts params.now }
     ensures data { IfOk result (λ value. view value ≡ publish_diagnostics_params_data params.now) }
     ensures exact { IfOk result (λ value. has_float (view value) ≡ false) }
+    ensures short { IsShortPublication params.now
+        → IfOk result (λ value. length (compact_text (view value)) ≤ publication_limit) }
 {
     params.write(alloc)
 }

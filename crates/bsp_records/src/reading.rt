@@ -1,12 +1,13 @@
-ghost use Rattle.std.specs.Prelude.{◌≡◌, ◌++◌, [], map, IfOk, IfSome};
+ghost use Rattle.std.specs.Prelude.{◌≡◌, ◌+◌, ◌≤◌, ◌++◌, [], length, map, nat_le, suc, IfOk, IfSome, IsTrue};
 ghost use Rattle.std.specs.List.{All};
-ghost use Rattle.std.specs.Str.{IsUtf8};
+ghost use Rattle.std.specs.Str.{IsAscii, IsUtf8};
 ghost use Rattle.serde_json.specs.Data.{Data, null};
 ghost use Rattle.serde_json.specs.View.{view};
-ghost use Rattle.bsp_records.specs.Reading.{Reads, if_there};
+ghost use Rattle.bsp_records.specs.Paths.{longest, is_plain, IsPlainPath};
+ghost use Rattle.bsp_records.specs.Reading.{Reads, IfBad, if_there};
 ghost use Rattle.bsp_records.specs.Shapes.{Shape, text, flag, list_of, at, bad, bad_if_there, bad_item, bad_params, under, member_step, item_step, path_of, text_in, flag_in, values_in};
 
-use crate::bad_params::BadParams;
+use crate::bad_params::{BadParams, PATH_LIMIT};
 use ob_text::{Items, NoMemory, Text};
 use serde_json::Value;
 use std::alloc::Global;
@@ -24,14 +25,18 @@ pub(crate) trait Read: Drop {
 
     fn read(alloc: Global, value: &Value) -> Result<Self, BadParams>
         ensures read { Reads (bad shape (view value.now)) (value_in (view value.now)) result }
-        ensures texts { IfOk result HasTexts };
+        ensures texts { IfOk result HasTexts }
+        ensures ascii { IfBad result IsAscii }
+        ensures short { IfBad result (λ path. length path ≤ longest shape) };
 }
 
 /// Reads the params of a method.
 pub(crate) fn read_params<T: Read>(alloc: Global, value: &Value) -> Result<T, BadParams>
+    requires { IsTrue (nat_le (longest T.shape) PATH_LIMIT) }
     ensures read { Reads (bad_params T.shape (view value.now)) (T.value_in (view value.now))
         result }
     ensures texts { IfOk result T.HasTexts }
+    ensures path { IfBad result IsPlainPath }
 {
     match T::read(alloc, value) {
         Err(BadParams::At(path)) => Err(BadParams::At(path_of_params(alloc, path)?)),
@@ -39,8 +44,12 @@ pub(crate) fn read_params<T: Read>(alloc: Global, value: &Value) -> Result<T, Ba
     }
 }
 
+#[tactic(auto, using(crate::proofs::PathLaws::plain_path))]
 fn path_of_params(alloc: Global, path: Text) -> Result<Text, NoMemory>
-    ensures { IfOk result (λ named. named ≡ path_of path) }
+    requires ascii { IsAscii path }
+    requires short { length path ≤ PATH_LIMIT }
+    ensures named { IfOk result (λ named. named ≡ path_of path) }
+    ensures plain { IfOk result IsPlainPath }
 {
     match path.as_slice() {
         [] => Text::new(alloc, b"params"),
@@ -55,17 +64,26 @@ pub(crate) fn bad_here(alloc: Global) -> BadParams
     BadParams::At(Text::from_vec(Vec::new(alloc)))
 }
 
+#[tactic(auto, using(crate::proofs::PathLaws::ascii_member, crate::proofs::PathLaws::length_member))]
 fn member_path(alloc: Global, name: &str, path: Text) -> Result<Text, NoMemory>
-    ensures { IfOk result (λ whole. whole ≡ member_step name.now ++ path) }
+    requires plain { IsTrue (is_plain name.now) }
+    requires ascii { IsAscii path }
+    ensures whole { IfOk result (λ whole. whole ≡ member_step name.now ++ path) }
+    ensures ascii { IfOk result IsAscii }
+    ensures short { IfOk result (λ whole. length whole ≡ suc (length name.now) + length path) }
 {
     joined(alloc, b".", name.as_bytes(), path.as_slice())
 }
 
 fn item_path(alloc: Global, index: usize, path: Text) -> Result<Text, NoMemory>
-    ensures { IfOk result (λ whole. whole ≡ item_step index ++ path) }
+    requires { IsAscii path }
+    ensures whole { IfOk result (λ whole. whole ≡ item_step index ++ path) }
+    ensures ascii { IfOk result IsAscii }
+    ensures short { IfOk result (λ whole. length whole ≤ 22 + length path) }
 {
     let step = format!(in alloc; "[{index}]")?;
-    joined(alloc, step.as_bytes(), b"", path.as_slice())
+    let whole = joined(alloc, step.as_bytes(), b"", path.as_slice())?;
+    Ok(whole)
 }
 
 fn joined(alloc: Global, first: &[u8], second: &[u8], third: &[u8]) -> Result<Text, NoMemory>
@@ -89,9 +107,12 @@ fn member<'a>(object: &'a Value, name: &str, absent: &'a Value) -> &'a Value
 }
 
 fn read_member<T: Read>(alloc: Global, value: &Value, name: &str) -> Result<T, BadParams>
+    requires { IsTrue (is_plain name.now) }
     ensures read { Reads (under (member_step name.now) (bad T.shape (view value.now)))
         (T.value_in (view value.now)) result }
     ensures texts { IfOk result T.HasTexts }
+    ensures ascii { IfBad result IsAscii }
+    ensures short { IfBad result (λ path. length path ≤ suc (length name.now) + longest T.shape) }
 {
     match T::read(alloc, value) {
         Err(BadParams::At(path)) => Err(BadParams::At(member_path(alloc, name, path)?)),
@@ -101,10 +122,13 @@ fn read_member<T: Read>(alloc: Global, value: &Value, name: &str) -> Result<T, B
 
 /// Reads a member that must be there.
 pub(crate) fn required<T: Read>(alloc: Global, object: &Value, name: &str) -> Result<T, BadParams>
+    requires { IsTrue (is_plain name.now) }
     ensures read { Reads
         (under (member_step name.now) (bad T.shape (at name.now (view object.now))))
         (T.value_in (at name.now (view object.now))) result }
     ensures texts { IfOk result T.HasTexts }
+    ensures ascii { IfBad result IsAscii }
+    ensures short { IfBad result (λ path. length path ≤ suc (length name.now) + longest T.shape) }
 {
     let absent = Value::Null;
     read_member(alloc, member(object, name, &absent), name)
@@ -116,10 +140,13 @@ pub(crate) fn optional<T: Read>(
     object: &Value,
     name: &str,
 ) -> Result<Option<T>, BadParams>
+    requires { IsTrue (is_plain name.now) }
     ensures read { Reads (under (member_step name.now)
         (bad_if_there (bad T.shape) (at name.now (view object.now))))
         (if_there T.value_in (at name.now (view object.now))) result }
     ensures texts { IfOk result (λ found. IfSome found T.HasTexts) }
+    ensures ascii { IfBad result IsAscii }
+    ensures short { IfBad result (λ path. length path ≤ suc (length name.now) + longest T.shape) }
 {
     let absent = Value::Null;
     let value = member(object, name, &absent);
@@ -183,6 +210,8 @@ fn read_items<T: Read>(alloc: Global, values: &[Value]) -> Result<Items<T>, BadP
     ensures read { Reads (bad_item (bad T.shape) 0 (map view values.now))
         (map T.value_in (map view values.now)) result }
     ensures texts { IfOk result (All T.HasTexts) }
+    ensures ascii { IfBad result IsAscii }
+    ensures short { IfBad result (λ path. length path ≤ 22 + longest T.shape) }
 {
     let mut items = Vec::new(alloc);
     for (index, value) in values.iter().enumerate() {

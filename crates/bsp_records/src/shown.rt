@@ -2,11 +2,12 @@ ghost use Rattle.std.specs.Prelude.{◌≡◌, ◌++◌, map, take, IfOk, IfSome
 ghost use Rattle.std.specs.List.{All};
 ghost use Rattle.std.specs.Str.{IsAscii, IsUtf8};
 ghost use Rattle.bsp_records.specs.Diagnostics.{HasDiagnosticTexts};
+ghost use Rattle.bsp_records.specs.Short.{IsShortPosition, IsShortRecord};
 ghost use Rattle.bsp_records.specs.Shown.{shown, shown_message, severity_shown, HasPlainName};
 
 use crate::diagnostics::{DiagnosticRecord, DiagnosticSeverity};
 use crate::kinds::owned;
-use ob_text::{Diagnostic, Items, Name, NoMemory, Severity, Text};
+use ob_text::{Diagnostic, Items, Name, NoMemory, Range, Severity, Text};
 use std::alloc::Global;
 
 /// The most bytes of a name that a message shows.
@@ -17,6 +18,7 @@ pub fn show_all(alloc: Global, list: &[Diagnostic]) -> Result<Items<DiagnosticRe
     requires { All HasPlainName list.now }
     ensures shown { IfOk result (λ records. records ≡ map shown list.now) }
     ensures texts { IfOk result (All HasDiagnosticTexts) }
+    ensures short { IfOk result (All IsShortRecord) }
 {
     let mut records = Vec::new(alloc);
     for diagnostic in list {
@@ -31,17 +33,27 @@ pub fn show(alloc: Global, diagnostic: &Diagnostic) -> Result<DiagnosticRecord, 
     requires { HasPlainName diagnostic.now }
     ensures shown { IfOk result (λ made. made ≡ shown diagnostic.now) }
     ensures texts { IfOk result HasDiagnosticTexts }
+    ensures short { IfOk result IsShortRecord }
 {
     let code = owned(alloc, diagnostic.code.name())?;
     let source = owned(alloc, "oberon")?;
     let message = message_of(alloc, diagnostic.code.message(), &diagnostic.name)?;
     Ok(DiagnosticRecord {
-        range: diagnostic.range,
+        range: shown_range(diagnostic.range),
         severity: Some(shown_severity(diagnostic.code.severity())),
         code: Some(code),
         source: Some(source),
         message,
     })
+}
+
+/// The same range. Its numbers have 32 bits.
+fn shown_range(range: Range) -> Range
+    ensures same { result ≡ range }
+    ensures start { IsShortPosition range.start }
+    ensures end { IsShortPosition range.end }
+{
+    range
 }
 
 fn shown_severity(severity: Severity) -> DiagnosticSeverity

@@ -1,13 +1,22 @@
 -- What publications of pieces make a client show.
-use Rattle.std.proofs.Common.{◌≡◌, ◌++◌, ◌≤◌, ℕ, zero, suc, List, [], ◌∷◌, length, map, take, drop, Bool, true, false, Option, refl, sym, ap, ◌∙◌, arith, append_assoc, append-nil}
-use Rattle.std.proofs.lemmas.List.{take-append-drop, length-drop}
-use Rattle.bsp_records.specs.Table.{Table, published}
+use Rattle.std.proofs.Common.{◌≡◌, ◌++◌, ◌≤◌, ℕ, zero, suc, List, [], ◌∷◌, length, map, take, drop, Bool, true, false, Option, refl, sym, ap, ◌∙◌, subst, arith, append_assoc, append-nil}
+use Rattle.std.proofs.lemmas.List.{take-append-drop, length-drop, length-take}
+use Rattle.std.proofs.lemmas.Slice.Eq.{bytes_eq-Decides}
+use Rattle.std.proofs.lemmas.List.Elements.{All-nil, All-cons, All-take, All-drop}
+use Rattle.std.specs.Prelude.{⊤, ◌&&◌, if◌then◌else◌}
+use Rattle.std.specs.List.{All}
+use Rattle.std.specs.Option.{IfSome}
+use Rattle.std.specs.Str.{bytes_eq}
+use Rattle.bsp_records.specs.Short.{IsShortAddress, IsShortPublication, IsShortRecord, IsWithin}
+use Rattle.bsp_records.specs.Table.{Table, published, table_with}
 use Rattle.bsp_records.specs.declared.diagnostics.DiagnosticRecord.{DiagnosticRecord}
+use Rattle.bsp_records.specs.declared.kinds.TheConstants.{ORIGIN_LIMIT}
 use Rattle.bsp_records.specs.declared.publishing.PublishDiagnosticsParams.{PublishDiagnosticsParams}
-use Rattle.task_stream.specs.Pieces.{cut, later_pieces, piece, pieces}
-use Rattle.task_stream.specs.Showing.{is_at}
+use Rattle.task_stream.specs.Pieces.{cut, later_pieces, piece, pieces, IsPiece}
+use Rattle.task_stream.specs.Showing.{is_at, shows, MakeShow}
 use Rattle.task_stream.specs.declared.shown.TheConstants.{PIECE_LIMIT}
 use Rattle.task_stream.specs.declared.shown.Address.{Address}
+use Rattle.task_stream.specs.declared.shown.Shown.{Shown}
 
 -- ---- the pieces of a list are the list
 
@@ -44,11 +53,6 @@ whole_joined items =
 
 -- ---- what a client shows then
 
--- the table once these were published, the first of them first
-abbrev pub table_with : List PublishDiagnosticsParams → Table → Table
-table_with [] table = table
-table_with (p ∷ ps) table = table_with ps (published p table)
-
 module _ (address : Address) (origin : Option (List ℕ)) (document target : List ℕ) where
   -- pieces that don't reset add to what is shown at their address
   added : (here : is_at address document target ≡ true) (parts : List (List DiagnosticRecord)) (table : Table)
@@ -67,13 +71,78 @@ module _ (address : Address) (origin : Option (List ℕ)) (document target : Lis
       kept there reset parts (published (piece address origin reset part) table) ∙ first
 
   -- the pieces of a list make it the one that is shown at their address
-  pub pieces_show : is_at address document target ≡ true → (records : List DiagnosticRecord) (table : Table) → table_with (pieces address origin records) table document target ≡ records
+  pieces_show : is_at address document target ≡ true → (records : List DiagnosticRecord) (table : Table) → table_with (pieces address origin records) table document target ≡ records
   pieces_show here records table =
       let first = take PIECE_LIMIT records in
       let begun : published (piece address origin true first) table document target ≡ first = rw here refl in
       added here (later_pieces records) (published (piece address origin true first) table) ∙ (ap (λ list. list ++ joined (later_pieces records)) begun ∙ whole_joined records)
 
-  pub pieces_keep : is_at address document target ≡ false → (records : List DiagnosticRecord) (table : Table) → table_with (pieces address origin records) table document target ≡ table document target
+  pieces_keep : is_at address document target ≡ false → (records : List DiagnosticRecord) (table : Table) → table_with (pieces address origin records) table document target ≡ table document target
   pieces_keep there records table =
       let first : published (piece address origin true (take PIECE_LIMIT records)) table document target ≡ table document target = rw there refl in
       kept there false (later_pieces records) (published (piece address origin true (take PIECE_LIMIT records)) table) ∙ first
+
+-- so the pieces make a client show the list
+pub pieces_make : (ps : List PublishDiagnosticsParams) (old : Shown) (address : Address) (records : List DiagnosticRecord) (origin : Option (List ℕ))
+    → ps ≡ pieces address origin records → MakeShow ps old address records
+pieces_make ps old address records origin is table agrees document target = by_place (is_at address document target) refl
+  where
+    by_place : (here : Bool) → is_at address document target ≡ here → table_with ps table document target ≡ (if here then records else table document target)
+    by_place true here = ap (λ some. table_with some table document target) is ∙ pieces_show address origin document target here records table
+    by_place false there = ap (λ some. table_with some table document target) is ∙ pieces_keep address origin document target there records table
+
+left_true : (a b : Bool) → (a && b) ≡ true → a ≡ true
+left_true true b h = refl
+left_true false b h = absurd (cc)
+
+right_true : (a b : Bool) → (a && b) ≡ true → b ≡ true
+right_true true b h = h
+right_true false b h = absurd (cc)
+
+-- and none are needed, where the client shows the list already
+pub none_make : (ps : List PublishDiagnosticsParams) (old : Shown) (address : Address) (records : List DiagnosticRecord)
+    → ps ≡ [] → shows old address.document address.target ≡ records → MakeShow ps old address records
+none_make ps old address records is shown table agrees document target =
+    ap (λ some. table_with some table document target) is ∙ by_place (is_at address document target) refl
+  where
+    by_place : (here : Bool) → is_at address document target ≡ here → table document target ≡ (if here then records else table document target)
+    by_place true here =
+        let document_here = bytes_eq address.document document in
+        let target_here = bytes_eq address.target target in
+        let same_document : address.document ≡ document = (bytes_eq-Decides address.document document).0 (left_true document_here target_here here) in
+        let same_target : address.target ≡ target = (bytes_eq-Decides address.target target).0 (right_true document_here target_here here) in
+        cc
+    by_place false there = refl
+
+-- ---- what holds of each piece
+
+module _ (P : DiagnosticRecord → Type 0) (Q : PublishDiagnosticsParams → Type 0) (address : Address) (origin : Option (List ℕ))
+    (each : (reset : Bool) (part : List DiagnosticRecord) → length part ≤ PIECE_LIMIT → All P part → Q (piece address origin reset part)) where
+  one : (reset : Bool) (records : List DiagnosticRecord) → All P records → Q (piece address origin reset (take PIECE_LIMIT records))
+  one reset records all =
+      each reset (take PIECE_LIMIT records) (let l = length-take PIECE_LIMIT records in omega (arith, l)) (All-take P PIECE_LIMIT records all)
+
+  later : (most : ℕ) (records : List DiagnosticRecord) → All P records → All Q (map (piece address origin false) (cut most records))
+  later zero records all = All-nil Q
+  later (suc most) [] all = All-nil Q
+  later (suc most) (x ∷ xs) all =
+      All-cons Q (piece address origin false (take PIECE_LIMIT (x ∷ xs))) (map (piece address origin false) (cut most (drop PIECE_LIMIT (x ∷ xs)))) (one false (x ∷ xs) all)
+      (later most (drop PIECE_LIMIT (x ∷ xs)) (All-drop P PIECE_LIMIT (x ∷ xs) all))
+
+  all_pieces : (records : List DiagnosticRecord) → All P records → All Q (pieces address origin records)
+  all_pieces records all =
+      All-cons Q (piece address origin true (take PIECE_LIMIT records)) (map (piece address origin false) (later_pieces records)) (one true records all)
+      (later (length records) (drop PIECE_LIMIT records) (All-drop P PIECE_LIMIT records all))
+
+pub pieces_few : (ps : List PublishDiagnosticsParams) (address : Address) (origin : Option (List ℕ)) (records : List DiagnosticRecord)
+    → ps ≡ pieces address origin records → All IsPiece ps
+pieces_few ps address origin records is =
+    subst (All IsPiece) (sym is) (all_pieces (λ _. ⊤) IsPiece address origin (λ reset part few all. few) records (λ k d h. tt))
+
+pub pieces_short : (ps : List PublishDiagnosticsParams) (address : Address) (origin : Option (List ℕ)) (records : List DiagnosticRecord)
+    → ps ≡ pieces address origin records → All IsShortRecord records → IsShortAddress address.document → IsShortAddress address.target → IfSome origin (IsWithin ORIGIN_LIMIT)
+    → All IsShortPublication ps
+pieces_short ps address origin records is all document target within =
+    subst (All IsShortPublication) (sym is)
+    (all_pieces IsShortRecord IsShortPublication address origin
+    (λ reset part few short. record { document = document; target = target; origin = within; count = few; diagnostics = short }) records all)

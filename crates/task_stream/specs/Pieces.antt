@@ -1,5 +1,5 @@
 -- A list of diagnostics as its publications (Build Server Protocol 2.2, build/publishDiagnostics).
-use Rattle.std.specs.Prelude.{ℕ, zero, suc, List, [], ◌∷◌, length, map, take, drop, Bool, true, false, Option}
+use Rattle.std.specs.Prelude.{ℕ, ◌≤◌, zero, suc, List, [], ◌∷◌, length, map, take, drop, Bool, true, false, Option}
 use Rattle.bsp_records.specs.declared.diagnostics.DiagnosticRecord.{DiagnosticRecord}
 use Rattle.bsp_records.specs.declared.publishing.PublishDiagnosticsParams.{PublishDiagnosticsParams}
 use Rattle.task_stream.specs.declared.shown.Address.{Address}
@@ -31,3 +31,7 @@ later_pieces items = cut (length items) (drop PIECE_LIMIT items)
 abbrev pub pieces : Address → Option (List ℕ) → List DiagnosticRecord → List PublishDiagnosticsParams
 pieces address origin records =
     piece address origin true (take PIECE_LIMIT records) ∷ map (piece address origin false) (later_pieces records)
+
+-- a publication of at most so many diagnostics as one piece has
+abbrev pub IsPiece : PublishDiagnosticsParams → Type 0
+IsPiece p = length p.diagnostics ≤ PIECE_LIMIT

@@ -2,8 +2,9 @@
 use Rattle.std.specs.Prelude.{◌≡◌, ◌==◌, ◌&&◌, ℕ, List, [], Bool, unwrap_or, if◌then◌else◌}
 use Rattle.std.specs.Cmp.Lexicographic.{pointwise}
 use Rattle.indexmap.specs.IndexMap.{get}
-use Rattle.bsp_records.specs.Table.{Table}
+use Rattle.bsp_records.specs.Table.{Table, table_with}
 use Rattle.bsp_records.specs.declared.diagnostics.DiagnosticRecord.{DiagnosticRecord}
+use Rattle.bsp_records.specs.declared.publishing.PublishDiagnosticsParams.{PublishDiagnosticsParams}
 use Rattle.task_stream.specs.contracts.shown.AddressPartialEq.TheImpl.{eq-value}
 use Rattle.task_stream.specs.declared.shown.Address.{Address}
 use Rattle.task_stream.specs.declared.shown.Shown.{Shown}
@@ -22,3 +23,10 @@ is_at address document target = pointwise ◌==◌ address.document document && 
 abbrev pub ShowsNow : Shown → Shown → Address → List DiagnosticRecord → Type 0
 ShowsNow old new address records =
     (document target : List ℕ) → shows new document target ≡ (if is_at address document target then records else shows old document target)
+
+-- these publications, the first of them first, make any client show this list at one address by the
+-- reset rule, and leave the others, if it shows there what is kept of it
+abbrev pub MakeShow : List PublishDiagnosticsParams → Shown → Address → List DiagnosticRecord → Type 0
+MakeShow ps old address records =
+    (table : Table) → table address.document address.target ≡ shows old address.document address.target
+    → (document target : List ℕ) → table_with ps table document target ≡ (if is_at address document target then records else table document target)

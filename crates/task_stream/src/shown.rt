@@ -2,14 +2,15 @@ ghost use Rattle.std.specs.Prelude.{◌≡◌, ◌≢◌, ◌↔◌, ◌++◌, �
 ghost use Rattle.std.specs.List.{All};
 ghost use Rattle.std.specs.Str.{IsUtf8};
 ghost use Rattle.bsp_records.specs.Diagnostics.{HasPublishTexts};
+ghost use Rattle.bsp_records.specs.Short.{IsShortAddress, IsShortPublication, IsWithin};
 ghost use Rattle.bsp_records.specs.Shown.{shown, HasPlainName};
-ghost use Rattle.task_stream.specs.Pieces.{pieces, later_pieces, piece};
-ghost use Rattle.task_stream.specs.Showing.{address_of, shows, ShowsNow};
+ghost use Rattle.task_stream.specs.Pieces.{pieces, later_pieces, piece, IsPiece};
+ghost use Rattle.task_stream.specs.Showing.{address_of, shows, MakeShow, ShowsNow};
 
 use crate::same::same_record;
 use bsp_records::{
-    BuildTargetIdentifier, DiagnosticRecord, PublishDiagnosticsParams, TextDocumentIdentifier,
-    show_all,
+    BuildTargetIdentifier, DiagnosticRecord, ORIGIN_LIMIT, PublishDiagnosticsParams,
+    TextDocumentIdentifier, show_all,
 };
 use indexmap::IndexMap;
 use ob_text::{Diagnostic, Items, NoMemory, Text};
@@ -56,8 +57,9 @@ impl Shown {
         }
     }
 
-    /// The publications that make a client show this list, none where it shows it already. The list is
-    /// in pieces of `PIECE_LIMIT`, of which the first resets.
+    /// The publications that make a client show this list by the reset rule, none where it shows it
+    /// already. The list is in pieces of `PIECE_LIMIT`, of which the first resets.
+    #[tactic(auto, using(crate::proofs::PieceLaws::none_make))]
     pub fn publish(
         &mut self,
         address: &Address,
@@ -72,8 +74,16 @@ impl Shown {
             ≡ map shown list.now → ps.items ≡ []) }
         ensures other { IfOk result (λ ps. shows self.old address.now.document address.now.target
             ≢ map shown list.now → ps.items ≡ pieces address.now origin.now (map shown list.now)) }
+        ensures none { IfOk result (λ ps. ps.items ≡ []
+            → shows self.old address.now.document address.now.target ≡ map shown list.now) }
+        ensures client { IfOk result (λ ps. MakeShow ps.items self.old address.now
+            (map shown list.now)) }
         ensures table { OnOk result (ShowsNow self.old self.new address.now (map shown list.now)) }
         ensures texts { IfOk result (λ ps. All HasPublishTexts ps.items) }
+        ensures few { IfOk result (λ ps. All IsPiece ps.items) }
+        ensures short { IsShortAddress address.now.document → IsShortAddress address.now.target
+            → IfSome origin.now (IsWithin ORIGIN_LIMIT)
+            → IfOk result (λ ps. All IsShortPublication ps.items) }
         ensures err { OnErr result ((document target : List ℕ)
             → shows self.new document target ≡ shows self.old document target) }
     {

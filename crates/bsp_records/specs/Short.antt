@@ -1,0 +1,39 @@
+-- Publications that are short, as those of the language's diagnostics are: their params print in a part
+-- of a frame.
+use Rattle.std.specs.Prelude.{ℕ, ◌<◌, ◌≤◌, List, length}
+use Rattle.std.specs.List.{All}
+use Rattle.std.specs.Option.{IfSome}
+use Rattle.ob_text.specs.declared.position.Position.{Position}
+use Rattle.bsp_records.specs.declared.diagnostics.DiagnosticRecord.{DiagnosticRecord}
+use Rattle.bsp_records.specs.declared.kinds.TheConstants.{ORIGIN_LIMIT}
+use Rattle.bsp_records.specs.declared.publishing.PublishDiagnosticsParams.{PublishDiagnosticsParams}
+
+abbrev pub IsWithin : ℕ → List ℕ → Type 0
+IsWithin limit text = length text ≤ limit
+
+-- a place whose numbers have 32 bits
+pub record IsShortPosition (p : Position) : Type 0 where
+  pub line : p.line < 4294967296
+  pub character : p.character < 4294967296
+
+pub record IsShortRecord (r : DiagnosticRecord) : Type 0 where
+  pub start : IsShortPosition r.range.start
+  pub end : IsShortPosition r.range.end
+  pub code : IfSome r.code (IsWithin 40)
+  pub source : IfSome r.source (IsWithin 10)
+  pub message : IsWithin 200 r.message
+
+-- an address of a document or a target
+abbrev pub IsShortAddress : List ℕ → Type 0
+IsShortAddress = IsWithin 4400
+
+pub record IsShortPublication (p : PublishDiagnosticsParams) : Type 0 where
+  pub document : IsShortAddress p.text_document.uri
+  pub target : IsShortAddress p.build_target.uri
+  pub origin : IfSome p.origin_id (IsWithin ORIGIN_LIMIT)
+  pub count : length p.diagnostics ≤ 100
+  pub diagnostics : All IsShortRecord p.diagnostics
+
+-- the most bytes that the params of a short publication print as
+abbrev pub publication_limit : ℕ
+publication_limit = 1000000
