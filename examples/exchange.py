@@ -1,11 +1,14 @@
-"""Talks to a build server as an editor does, and prints the exchange for a person to read.
+"""Talks to a build server as an editor does, and prints the exchange for a person to read. The workspace is
+a copy of FOLDER, in which a module is broken and mended.
 
 usage: exchange.py PROGRAM FOLDER
 """
 import json
 import pathlib
+import shutil
 import subprocess
 import sys
+import tempfile
 
 
 def frame(message):
@@ -37,6 +40,7 @@ class Client:
             [program, "serve", folder], stdin=subprocess.PIPE, stdout=subprocess.PIPE
         )
         self.last_id = 0
+        self.targets = []
 
     def send(self, message):
         self.server.stdin.write(frame(message))
@@ -67,24 +71,54 @@ class Client:
         return self.server.wait()
 
 
-def main():
-    if len(sys.argv) != 3:
-        sys.exit(__doc__)
-    program, folder = sys.argv[1:]
-    client = Client(program, folder)
+def compile_all(client, note):
+    """Compiles every target of the workspace that the client opened."""
+    print(f"-- {note}\n")
+    targets = [{"uri": uri} for uri in client.targets]
+    client.request("buildTarget/compile", {"targets": targets})
+
+
+def without_a_semicolon(text):
+    """The module with the first semicolon behind its BEGIN left out."""
+    place = text.index(";", text.index("BEGIN"))
+    return text[:place] + text[place + 1 :]
+
+
+def show_session(client, folder):
+    root = folder.as_uri()
+    workspace = json.loads((folder / "oberon-build.json").read_text())
+    client.targets = [f"{root}/?id={target['name']}" for target in workspace["targets"]]
+    module = folder / workspace["targets"][0]["modules"][0]
     client.request(
         "build/initialize",
         {
             "displayName": "demo",
             "version": "1",
             "bspVersion": "2.2.0",
-            "rootUri": pathlib.Path(folder).resolve().as_uri(),
+            "rootUri": root,
             "capabilities": {"languageIds": ["oberon"]},
         },
     )
+    text = module.read_text()
+    compile_all(client, f"{module.name} as it is:")
+    module.write_text(without_a_semicolon(text))
+    compile_all(client, f"{module.name} without one of its semicolons:")
+    module.write_text(text)
+    compile_all(client, f"{module.name} mended:")
     client.request("build/shutdown")
     client.notify("build/exit")
-    status = client.status()
+
+
+def main():
+    if len(sys.argv) != 3:
+        sys.exit(__doc__)
+    program, original = sys.argv[1:]
+    with tempfile.TemporaryDirectory() as place:
+        folder = pathlib.Path(place).resolve() / "workspace"
+        shutil.copytree(original, folder)
+        client = Client(program, str(folder))
+        show_session(client, folder)
+        status = client.status()
     print(f"The server ended with status {status}.")
     sys.exit(status)
 

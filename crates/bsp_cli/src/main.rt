@@ -23,6 +23,8 @@ use std::process::ExitCode;
 use std::rt::Env;
 
 #[cfg(test)]
+mod compile_tests;
+#[cfg(test)]
 mod tests;
 
 fn main(rt: HostRuntime) -> ExitCode {

@@ -6,18 +6,20 @@ use std::alloc::{AllocError, Global};
 use std::process::Abort;
 use std::test::Fail;
 
-const INITIALIZE: &[u8] =
+pub const INITIALIZE: &[u8] =
     b"Content-Length: 180\r\n\r\n{\"jsonrpc\":\"2.0\",\"id\":1,\"method\":\"build/initialize\",\"params\":{\"displayName\":\"t\",\"version\":\"1\",\"bspVersion\":\"2.2.0\",\"rootUri\":\"file:///w\",\"capabilities\":{\"languageIds\":[\"oberon\"]}}}";
 
-const SHUTDOWN: &[u8] =
+pub const SHUTDOWN: &[u8] =
     b"Content-Length: 50\r\n\r\n{\"jsonrpc\":\"2.0\",\"id\":2,\"method\":\"build/shutdown\"}";
 
-const EXIT: &[u8] = b"Content-Length: 39\r\n\r\n{\"jsonrpc\":\"2.0\",\"method\":\"build/exit\"}";
+pub const EXIT: &[u8] =
+    b"Content-Length: 39\r\n\r\n{\"jsonrpc\":\"2.0\",\"method\":\"build/exit\"}";
 
-const INITIALIZED: &[u8] =
+pub const INITIALIZED: &[u8] =
     b"Content-Length: 327\r\n\r\n{\"id\":1,\"jsonrpc\":\"2.0\",\"result\":{\"bspVersion\":\"2.2.0\",\"capabilities\":{\"buildTargetChangedProvider\":true,\"canReload\":true,\"compileProvider\":{\"languageIds\":[\"oberon\"]},\"inverseSourcesProvider\":true,\"runProvider\":{\"languageIds\":[\"oberon\"]},\"testProvider\":{\"languageIds\":[\"oberon\"]}},\"displayName\":\"oberon-bsp\",\"version\":\"1.0.0\"}}";
 
-const CLOSED: &[u8] = b"Content-Length: 38\r\n\r\n{\"id\":2,\"jsonrpc\":\"2.0\",\"result\":null}";
+pub const CLOSED: &[u8] =
+    b"Content-Length: 38\r\n\r\n{\"id\":2,\"jsonrpc\":\"2.0\",\"result\":null}";
 
 const PARSE_ERROR: &[u8] =
     b"Content-Length: 75\r\n\r\n{\"error\":{\"code\":-32700,\"message\":\"parse error\"},\"id\":null,\"jsonrpc\":\"2.0\"}";
@@ -43,7 +45,7 @@ struct Left {
     notes: Vec<u8>,
 }
 
-fn joined(alloc: Global, parts: &[&[u8]]) -> Result<Vec<u8>, AllocError> {
+pub fn joined(alloc: Global, parts: &[&[u8]]) -> Result<Vec<u8>, AllocError> {
     let mut bytes = Vec::new(alloc);
     for part in parts {
         bytes.extend_from_slice(part)?;
@@ -64,7 +66,7 @@ fn source(alloc: Global, bytes: Vec<u8>) -> MemSource {
     MemSource::new(bytes, Vec::new(alloc), Vec::new(alloc), Vec::new(alloc))
 }
 
-fn file(alloc: Global, path: &[u8], text: &[u8]) -> Result<(Path, Held), Fail> {
+pub fn file(alloc: Global, path: &[u8], text: &[u8]) -> Result<(Path, Held), Fail> {
     Ok((Path::new(alloc, path)?, Held::Text(Text::new(alloc, text)?)))
 }
 
@@ -78,7 +80,7 @@ fn workspace(alloc: Global, failing: Vec<u64>) -> Result<MemTree, Fail> {
     Ok(MemTree::new(alloc, files, Vec::new(alloc), failing))
 }
 
-fn run<S: Source, T: Tree, K: Sink>(
+pub fn run<S: Source, T: Tree, K: Sink>(
     alloc: Global,
     input: &mut S,
     tree: &mut T,
@@ -203,7 +205,7 @@ fn ends_of_input(rt: HostRuntime) -> Result<(), Fail> {
     Ok(())
 }
 
-fn framed(alloc: Global, bodies: &[&[u8]]) -> Result<Vec<u8>, Fail> {
+pub fn framed(alloc: Global, bodies: &[&[u8]]) -> Result<Vec<u8>, Fail> {
     let mut bytes = Vec::new(alloc);
     for body in bodies {
         let head = format!(in alloc; "Content-Length: {}\r\n\r\n", body.len())?;

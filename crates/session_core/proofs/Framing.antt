@@ -1,9 +1,10 @@
 -- The messages of the server are printed in one way, and fit a frame.
-use Rattle.std.proofs.Common.{◌≡◌, ◌≤◌, ℕ, suc, ◌+◌, ◌*◌, cond, lit≤, IfSome, ltb, ◌/◌, ◌%◌, ◌<◌, ◌^◌, ℤ, pos, negsuc, List, [], ◌∷◌, length, Bool, true, false, Some, None, decimal, refl, ap, ◌∙◌, arith, length-append}
+use Rattle.std.proofs.Common.{◌≡◌, ◌≤◌, ◌++◌, ℕ, suc, ◌+◌, ◌*◌, cond, lit≤, IfSome, ltb, ◌/◌, ◌%◌, ◌<◌, ◌^◌, ℤ, pos, negsuc, List, [], ◌∷◌, length, Bool, true, false, Some, None, decimal, refl, ap, ◌∙◌, arith, length-append}
 use Rattle.std.specs.Prelude.{codes, FitsSigned, Option}
 use Rattle.std.specs.Int.{w64}
 use Rattle.std.specs.Ordering.{int_eq}
-use Rattle.std.specs.Str.{IsUtf8}
+use Rattle.std.specs.Str.{IsAscii, IsUtf8}
+use Rattle.std.proofs.lemmas.Str.{IsUtf8-append, IsUtf8-from_ascii}
 use Rattle.std.proofs.lemmas.Int.{ints}
 use Rattle.std.proofs.lemmas.Fmt.{length-decimal-le}
 use Rattle.std.specs.Char.{digit_char}
@@ -16,15 +17,21 @@ use Rattle.rpc_peer.specs.declared.message.Id.{Id}
 use Rattle.rpc_peer.specs.declared.message.Id.TheVariants.{Number, Text}
 use Rattle.rpc_peer.specs.Said.{IsId, HasText, id_data, id_limit, answered_data, error_data, version, body_of, result, failure}
 use Rattle.rpc_frame.specs.declared.TheConstants.{CONTENT_LIMIT}
+use Rattle.bsp_records.specs.Results.{compile_result_data, status_data}
+use Rattle.bsp_records.specs.Shapes.{IsTextWithin}
+use Rattle.bsp_records.specs.declared.kinds.TheConstants.{ORIGIN_LIMIT}
+use Rattle.session_law.specs.Builds.{build_said, status_by}
 use Rattle.session_law.specs.Lawful.{IsFramed}
-use Rattle.session_law.specs.Methods.{initialize_result, null_message}
+use Rattle.session_law.specs.Methods.{initialize_result, null_message, kind_text, name_behind}
 use Rattle.rpc_peer.specs.Meaning.{parse_error}
-use Rattle.session_core.specs.Acting.{answer_to, code_of, message_of}
+use Rattle.session_core.specs.Judging.{answer_to, code_of, message_of, IsSaid}
 use Rattle.session_core.specs.declared.verdicts.Answer.{Answer}
 use Rattle.session_core.specs.declared.verdicts.Answer.TheVariants.{Opening, Closing, Refused}
 use Rattle.session_core.specs.declared.verdicts.Reason.{Reason}
-use Rattle.session_core.specs.declared.verdicts.Reason.TheVariants.{NotInitialized, Invalid, Unknown, Unreadable}
-use Rattle.session_core.proofs.Literals.{is_ascii, literal_text}
+use Rattle.session_core.specs.declared.verdicts.Reason.TheVariants as reasons
+use Rattle.target_graph.specs.declared.fault.FaultKind.{FaultKind}
+use Rattle.target_graph.specs.declared.fault.FaultKind.TheVariants.{NoFile, BadJson, BadField, TooMany, NameTwice, UnknownDependency, DependencyCycle, StemTwice}
+use Rattle.session_core.proofs.Literals.{literal_text}
 
 -- ---- how long the text of a value is
 
@@ -122,14 +129,9 @@ either_text : (b : Bool) → IsUtf8 (cond b (codes "parse error") (codes "invali
 either_text true = literal_text (codes "parse error") refl
 either_text false = literal_text (codes "invalid request") refl
 
-either_short : (b : Bool) → length (members_text true (member (codes "message") (string (cond b (codes "parse error") (codes "invalid request"))) no_members)) ≤ 40
-unfolding serde_json_on_literals
-either_short true = lit≤ tt
-either_short false = lit≤ tt
-
 -- ---- the responses
 
-result_fits : (id : Id) (value : Data) → IsId id → length (members_text true (behind_id value)) ≤ 400 → length (body_of (result (Some id) value)) ≤ CONTENT_LIMIT
+result_fits : (id : Id) (value : Data) → IsId id → length (members_text true (behind_id value)) ≤ 10000 → length (body_of (result (Some id) value)) ≤ CONTENT_LIMIT
 unfolding body_of
 result_fits id value h short =
     let whole = length_object (codes "id") (id_data id) (behind_id value) in
@@ -140,14 +142,102 @@ result_fits id value h short =
 framed_opening : (id : Id) → IsId id → IsFramed (result (Some id) initialize_result)
 unfolding initialize_result
 framed_opening id h =
-    record { of_server = tt; texts = id_text id h; exact = rw (id_exact id); fits = result_fits id initialize_result h behind_opening }
+    record { of_server = tt; texts = id_text id h; exact = rw (id_exact id); fits = result_fits id initialize_result h (omega (arith, behind_opening)) }
 
 framed_closing : (id : Id) → IsId id → IsFramed (result (Some id) null)
-framed_closing id h = record { of_server = tt; texts = id_text id h; exact = rw (id_exact id); fits = result_fits id null h behind_closing }
+framed_closing id h = record { of_server = tt; texts = id_text id h; exact = rw (id_exact id); fits = result_fits id null h (omega (arith, behind_closing)) }
+
+-- ---- the response to a compile
+
+abbrev compiled : Option (List ℕ) → Bool → Data
+compiled origin failed = compile_result_data (record { origin_id = origin; status_code = status_by failed })
+
+compiled_exact : (origin : Option (List ℕ)) (failed : Bool) → has_float (compiled origin failed) ≡ false
+unfolding serde_json_on_literals
+compiled_exact None true = refl
+compiled_exact None false = refl
+compiled_exact (Some text) true = refl
+compiled_exact (Some text) false = refl
+
+status_key : length (quoted (codes "statusCode")) ≡ 12
+unfolding serde_json_on_literals
+status_key = refl
+
+status_short : (failed : Bool) → length (compact_text (status_data (status_by failed))) ≤ 20
+status_short true = number_short (pos 2) (omega (arith, ints))
+status_short false = number_short (pos 1) (omega (arith, ints))
+
+behind_origin : (failed : Bool) → length (members_text true (member (codes "statusCode") (status_data (status_by failed)) no_members)) ≤ 40
+behind_origin failed =
+    let whole = length_members (codes "statusCode") (status_data (status_by failed)) no_members in
+    let key = status_key in
+    let number = status_short failed in
+    let last : length (members_text true no_members) ≤ 1 = lit≤ tt in
+    omega arith
+
+without_origin : (failed : Bool) → length (compact_text (object (member (codes "statusCode") (status_data (status_by failed)) no_members))) ≤ 7000
+without_origin failed =
+    let whole = length_object (codes "statusCode") (status_data (status_by failed)) no_members in
+    let key = status_key in
+    let number = status_short failed in
+    let last : length (members_text true no_members) ≤ 1 = lit≤ tt in
+    omega arith
+
+origin_key : length (quoted (codes "originId")) ≡ 10
+unfolding serde_json_on_literals
+origin_key = refl
+
+with_origin : (text : List ℕ) (failed : Bool) → length text ≤ ORIGIN_LIMIT
+    → length (compact_text (object (member (codes "originId") (string text) (member (codes "statusCode") (status_data (status_by failed)) no_members)))) ≤ 7000
+with_origin text failed short =
+    let whole = length_object (codes "originId") (string text) (member (codes "statusCode") (status_data (status_by failed)) no_members) in
+    let quotes : length (quoted text) ≤ 6 * length text + 2 = rw (length-append (escape text) (34 ∷ [])) (let e = escaped text in omega (arith, e)) in
+    let key = origin_key in
+    let last = behind_origin failed in
+    omega arith
+
+compiled_short : (origin : Option (List ℕ)) (failed : Bool) → IfSome origin (IsTextWithin ORIGIN_LIMIT) → length (compact_text (compiled origin failed)) ≤ 7000
+unfolding serde_json_on_literals
+compiled_short None true short = without_origin true
+compiled_short None false short = without_origin false
+compiled_short (Some text) true short = with_origin text true short.within
+compiled_short (Some text) false short = with_origin text false short.within
+
+result_key : length (quoted (codes "result")) ≡ 8
+unfolding serde_json_on_literals
+result_key = refl
+
+version_key : length (quoted (codes "jsonrpc")) ≡ 9
+unfolding serde_json_on_literals
+version_key = refl
+
+version_short : length (compact_text version) ≤ 5
+unfolding serde_json_on_literals
+version_short = lit≤ tt
+
+behind_short_value : (value : Data) → length (compact_text value) ≤ 7000 → length (members_text true (behind_id value)) ≤ 10000
+behind_short_value value short =
+    let whole = length_members (codes "jsonrpc") version (member (codes "result") value no_members) in
+    let rest = length_members (codes "result") value no_members in
+    let first = version_key in
+    let second = result_key in
+    let middle = version_short in
+    let last : length (members_text true no_members) ≤ 1 = lit≤ tt in
+    omega arith
+
+pub framed_build : (id : Id) (origin : Option (List ℕ)) (failed : Bool) → IsId id → IfSome origin (IsTextWithin ORIGIN_LIMIT) → IsFramed (build_said id origin failed)
+unfolding build_said
+framed_build id origin failed h short =
+    record {
+      of_server = tt;
+      texts = id_text id h;
+      exact = rw (id_exact id, compiled_exact origin failed);
+      fits = result_fits id (compiled origin failed) h (behind_short_value (compiled origin failed) (compiled_short origin failed short));
+    }
 
 -- a failure whose error object is short fits
 failure_fits : (id : Option Id) (code : ℤ) (text : List ℕ) → length (compact_text (answered_data id)) ≤ id_text_limit
-    → length (compact_text (error_data code text)) ≤ 100 → length (body_of (failure id code text)) ≤ CONTENT_LIMIT
+    → length (compact_text (error_data code text)) ≤ 40000 → length (body_of (failure id code text)) ≤ CONTENT_LIMIT
 unfolding body_of
 failure_fits id code text answered short =
     let whole = length_object (codes "error") (error_data code text) (member (codes "id") (answered_data id) behind_failed_id) in
@@ -157,43 +247,91 @@ failure_fits id code text answered short =
     let last = behind_failure in
     omega arith
 
-error_short : (code : ℤ) (text : List ℕ) → FitsSigned w64 code → length (members_text true (member (codes "message") (string text) no_members)) ≤ 40
-    → length (compact_text (error_data code text)) ≤ 100
+message_key : length (quoted (codes "message")) ≡ 9
+unfolding serde_json_on_literals
+message_key = refl
+
+error_short : (code : ℤ) (text : List ℕ) → FitsSigned w64 code → length text ≤ 6000 → length (compact_text (error_data code text)) ≤ 40000
 error_short code text h short =
     let whole = length_object (codes "code") (number (of_integer code)) (member (codes "message") (string text) no_members) in
+    let message = length_members (codes "message") (string text) no_members in
+    let quotes : length (quoted text) ≤ 6 * length text + 2 = rw (length-append (escape text) (34 ∷ [])) (let e = escaped text in omega (arith, e)) in
     let key = code_key in
+    let second = message_key in
     let digits = number_short code h in
     omega arith
 
--- a refusal whose message is short, and plain
-framed_refusal : (id : Id) (code : ℤ) (text : List ℕ) → IsId id → FitsSigned w64 code → is_ascii text ≡ true
-    → length (members_text true (member (codes "message") (string text) no_members)) ≤ 40 → IsFramed (failure (Some id) code text)
+-- a refusal whose message is short
+framed_refusal : (id : Id) (code : ℤ) (text : List ℕ) → IsId id → FitsSigned w64 code → IsUtf8 text → length text ≤ 6000 → IsFramed (failure (Some id) code text)
 framed_refusal id code text h fits plain short =
     record {
       of_server = tt;
-      texts = (id_text id h, literal_text text plain);
+      texts = (id_text id h, plain);
       exact = rw (id_exact id, integer_exact code);
       fits = failure_fits (Some id) code text (id_short id h) (error_short code text fits short);
     }
 
-short_message : (reason : Reason) → length (members_text true (member (codes "message") (string (message_of reason)) no_members)) ≤ 40
-unfolding serde_json_on_literals
-short_message NotInitialized = lit≤ tt
-short_message Invalid = lit≤ tt
-short_message Unknown = lit≤ tt
-short_message Unreadable = lit≤ tt
+-- ---- the message of each refusal is short, and plain
 
-plain_message : (reason : Reason) → is_ascii (message_of reason) ≡ true
-plain_message NotInitialized = refl
-plain_message Invalid = refl
-plain_message Unknown = refl
-plain_message Unreadable = refl
+kind_plain : (kind : FaultKind) → IsUtf8 (kind_text kind)
+kind_plain NoFile = literal_text (codes "NoFile") refl
+kind_plain BadJson = literal_text (codes "BadJson") refl
+kind_plain BadField = literal_text (codes "BadField") refl
+kind_plain TooMany = literal_text (codes "TooMany") refl
+kind_plain NameTwice = literal_text (codes "NameTwice") refl
+kind_plain UnknownDependency = literal_text (codes "UnknownDependency") refl
+kind_plain DependencyCycle = literal_text (codes "DependencyCycle") refl
+kind_plain StemTwice = literal_text (codes "StemTwice") refl
+
+kind_short : (kind : FaultKind) → length (kind_text kind) ≤ 20
+kind_short NoFile = lit≤ tt
+kind_short BadJson = lit≤ tt
+kind_short BadField = lit≤ tt
+kind_short TooMany = lit≤ tt
+kind_short NameTwice = lit≤ tt
+kind_short UnknownDependency = lit≤ tt
+kind_short DependencyCycle = lit≤ tt
+kind_short StemTwice = lit≤ tt
+
+behind_plain : (name : List ℕ) → IsAscii name → IsUtf8 (name_behind name)
+behind_plain [] plain = literal_text [] refl
+behind_plain (byte ∷ name) plain = IsUtf8-append (codes " ") (byte ∷ name) (literal_text (codes " ") refl) (IsUtf8-from_ascii (byte ∷ name) plain)
+
+behind_short : (name : List ℕ) → length (name_behind name) ≤ 1 + length name
+behind_short [] = lit≤ tt
+behind_short (byte ∷ name) = omega arith
 
 code_fits : (reason : Reason) → FitsSigned w64 (code_of reason)
-code_fits NotInitialized = omega (arith, ints)
-code_fits Invalid = omega (arith, ints)
-code_fits Unknown = omega (arith, ints)
-code_fits Unreadable = omega (arith, ints)
+code_fits reasons.NotInitialized = omega (arith, ints)
+code_fits reasons.Invalid = omega (arith, ints)
+code_fits reasons.Unknown = omega (arith, ints)
+code_fits (reasons.BadParams path) = omega (arith, ints)
+code_fits reasons.Unreadable = omega (arith, ints)
+code_fits (reasons.Workspace fault) = omega (arith, ints)
+
+framed_reason : (id : Id) (reason : Reason) → IsId id → IsSaid (Refused reason) → IsFramed (failure (Some id) (code_of reason) (message_of reason))
+framed_reason id reasons.NotInitialized h said = framed_refusal id _ _ h (code_fits reasons.NotInitialized) (literal_text (codes "server not initialized") refl) (lit≤ tt)
+framed_reason id reasons.Invalid h said = framed_refusal id _ _ h (code_fits reasons.Invalid) (literal_text (codes "invalid request") refl) (lit≤ tt)
+framed_reason id reasons.Unknown h said = framed_refusal id _ _ h (code_fits reasons.Unknown) (literal_text (codes "method not found") refl) (lit≤ tt)
+framed_reason id (reasons.BadParams path) h said =
+    framed_refusal id _ _ h (code_fits (reasons.BadParams path))
+    (IsUtf8-append (codes "invalid params: ") path (literal_text (codes "invalid params: ") refl) (IsUtf8-from_ascii path said.plain))
+    (let l = length-append (codes "invalid params: ") path in let s = said.short in omega (arith, l, s))
+framed_reason id reasons.Unreadable h said = framed_refusal id _ _ h (code_fits reasons.Unreadable) (literal_text (codes "sources unreadable") refl) (lit≤ tt)
+framed_reason id (reasons.Workspace fault) h said =
+    framed_refusal id _ _ h (code_fits (reasons.Workspace fault))
+    (IsUtf8-append (codes "workspace refused: ") (kind_text fault.kind ++ name_behind fault.name) (literal_text (codes "workspace refused: ") refl)
+    (IsUtf8-append (kind_text fault.kind) (name_behind fault.name) (kind_plain fault.kind) (behind_plain fault.name said.plain)))
+    (let l = length-append (codes "workspace refused: ") (kind_text fault.kind ++ name_behind fault.name) in
+    let m = length-append (kind_text fault.kind) (name_behind fault.name) in
+    let k = kind_short fault.kind in
+    let n = behind_short fault.name in
+    let s = said.short in
+    omega (arith, l, m, k, n, s))
+
+null_short : (b : Bool) → length (cond b (codes "parse error") (codes "invalid request")) ≤ 6000
+null_short true = lit≤ tt
+null_short false = lit≤ tt
 
 pub framed_unread : (code : ℤ) → FitsSigned w64 code → IsFramed (failure None code (null_message code))
 unfolding null_message
@@ -203,10 +341,10 @@ framed_unread code h =
       of_server = tt;
       texts = (tt, either_text parse);
       exact = rw (integer_exact code);
-      fits = failure_fits None code _ (lit≤ tt) (error_short code _ h (either_short parse));
+      fits = failure_fits None code _ (lit≤ tt) (error_short code _ h (null_short parse));
     }
 
-pub framed_answer : (id : Id) (answer : Answer) → IsId id → IsFramed (answer_to id answer)
-framed_answer id Opening h = framed_opening id h
-framed_answer id Closing h = framed_closing id h
-framed_answer id (Refused reason) h = framed_refusal id (code_of reason) (message_of reason) h (code_fits reason) (plain_message reason) (short_message reason)
+pub framed_answer : (id : Id) (answer : Answer) → IsId id → IsSaid answer → IsFramed (answer_to id answer)
+framed_answer id (Opening space) h said = framed_opening id h
+framed_answer id Closing h said = framed_closing id h
+framed_answer id (Refused reason) h said = framed_reason id reason h said

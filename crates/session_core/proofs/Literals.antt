@@ -3,7 +3,7 @@ use Rattle.std.proofs.Common.{◌≡◌, ℕ, zero, suc, ◌<◌, List, [], ◌�
 use Rattle.std.proofs.lemmas.Bool.Decides.{nat_tests}
 use Rattle.std.proofs.lemmas.Str.{IsUtf8-from_ascii}
 use Rattle.std.specs.List.{list_all}
-use Rattle.std.specs.Str.{IsUtf8}
+use Rattle.std.specs.Str.{IsAscii, IsUtf8}
 
 abbrev pub is_ascii : List ℕ → Bool
 is_ascii bytes = list_all (λ b. ltb b 128) bytes
@@ -23,6 +23,9 @@ ascii : (bytes : List ℕ) → is_ascii bytes ≡ true → (i : ℕ) → get_or 
 ascii [] h i = omega arith
 ascii (b ∷ bytes) h zero = below b (head_of_and _ _ h)
 ascii (b ∷ bytes) h (suc i) = ascii bytes (tail_of_and _ _ h) i
+
+pub literal_ascii : (bytes : List ℕ) → is_ascii bytes ≡ true → IsAscii bytes
+literal_ascii bytes h = ascii bytes h
 
 pub literal_text : (bytes : List ℕ) → is_ascii bytes ≡ true → IsUtf8 bytes
 literal_text bytes h = IsUtf8-from_ascii bytes (ascii bytes h)

@@ -58,7 +58,7 @@ known core order quiet alive stands =
 
 -- nothing is owed in an order of a core for which nothing waits
 pub settled : (core : Core) (order : List Event) → IsFree core → Knows (state_of core) order → IsSettled order
-settled core order free knows = record { requests = knows.requests_are ∙ ap asked_by free; nulls = knows.nulls_are }
+settled core order free knows = record { requests = knows.requests_are ∙ ap (asked_by core.workspace) free; nulls = knows.nulls_are }
 
 status_left : (leaves closed : Bool) → IfSome (cond leaves (Some (cond closed 0 1)) None) (λ status. status ≤ 3)
 status_left true true = lit≤ tt

@@ -1,190 +1,65 @@
 -- What the core does in one step, in the words of the law.
-use Rattle.std.proofs.Common.{◌≡◌, ◌==◌, ◌||◌, ◌++◌, ℕ, ℤ, List, [], ◌∷◌, map, Bool, true, false, Option, Some, None, Result, Ok, Err, OnOk, OnErr, is_err, IfSome, option_to_list, refl, ap, sym, ◌∙◌, subst}
-use Rattle.std.proofs.lemmas.Bool.{eq-eqb}
-use Rattle.std.proofs.lemmas.Bool.Decides.{Decides-int_eq}
-use Rattle.std.specs.Cmp.Lexicographic.{pointwise}
-use Rattle.std.specs.Prelude.{codes}
-use Rattle.serde_json.specs.Data.{Data, null}
+use Rattle.std.proofs.Common.{◌≡◌, ◌++◌, ℕ, ℤ, List, [], ◌∷◌, map, Bool, true, false, Option, Some, None, Result, Ok, Err, OnOk, OnErr, is_err, IfSome, option_to_list, refl, ap, sym, ◌∙◌, subst}
+use Rattle.ob_text.specs.declared.held.Snapshot.{Snapshot}
 use Rattle.rpc_peer.specs.declared.message.Id.{Id}
-use Rattle.rpc_peer.specs.declared.message.Id.TheVariants.{Number, Text}
 use Rattle.rpc_peer.specs.declared.message.Message.{Message}
 use Rattle.rpc_peer.specs.Meaning.{meaning, parse_error}
-use Rattle.rpc_peer.specs.OpenIds.{same_id}
 use Rattle.rpc_peer.specs.Said.{Said, said, request, notification, result, failure, IsId}
 use Rattle.session_law.specs.declared.InputEnd.TheVariants.{Border, Damaged, Failed}
 use Rattle.session_law.specs.declared.InputEnd.{InputEnd}
-use Rattle.ob_text.specs.declared.held.Snapshot.{Snapshot}
-use Rattle.session_law.specs.Lawful.{Lawful, EachAllowed, IsFramed, IsGranted}
-use Rattle.session_law.specs.Methods.{Verdict, asking, opening, closing, refusal, verdict, initialize_result}
-use Rattle.session_law.specs.Order.{Event, take, ends, hand, write}
-use Rattle.session_law.specs.Past.{Asked, wanted_by, handed_over, handed_by, is_opening, is_closing, exit_status, opened_by, nulls_for, nulls_for_end, end_status, open_after, opened_after, closed_after, nulls_after, status_after}
-use Rattle.session_core.specs.Acting.{answer_to, answer_unread, answered, code_of, message_of, opening_answer, owed_verdict, verdict_of, Steps, ServesAs, Serves, Acts, ActsOnHand, Ends, status_by}
-use Rattle.session_core.specs.State.{State, state_of, asked_by, handed_of, workspace_need}
-use Rattle.session_core.specs.Standing.{Knows, Keeps, EachId, NeedFits, Suits, onto}
+use Rattle.session_law.specs.Builds.{ArePlaces, CleanBuild, build_answer, build_said, table_with}
+use Rattle.session_law.specs.Lawful.{Lawful, EachAllowed, IsFramed}
+use Rattle.session_law.specs.Methods.{Verdict, asking, building, unreadable, verdict}
+use Rattle.session_law.specs.Order.{Entries, Event, take, ends, hand, write}
+use Rattle.session_law.specs.Past.{WantedBy, handed_over, handed_by, exit_status, opened_by, nulls_for, nulls_for_end, end_status}
+use Rattle.session_core.specs.Acting.{answer_unread, answered, paths_in, Answers, AnswersAs, Builds, BuildsOn, Steps, Serves, Acts, ActsOnHand, Ends, status_by}
+use Rattle.session_core.specs.Judging.{answer_to, IsSaidOwed, Judges}
+use Rattle.session_core.specs.Plans.{Plan, build_in}
+use Rattle.session_core.specs.State.{Base, State, base_of, state_of, asked_by, owed, handed_of, workspace_need}
+use Rattle.session_core.specs.Standing.{Knows, Keeps, EachId, NeedFits, PlanFits, Suits, onto}
 use Rattle.session_core.specs.declared.awaiting.Awaiting.{Awaiting}
 use Rattle.session_core.specs.declared.awaiting.Awaiting.TheVariants as awaits
 use Rattle.session_core.specs.declared.awaiting.Need.{Need}
+use Rattle.session_core.specs.declared.awaiting.Need.TheVariants as needs
 use Rattle.session_core.specs.declared.session.Core.{Core}
-use Rattle.session_core.specs.declared.verdicts.Answer.{Answer}
 use Rattle.session_core.specs.declared.verdicts.Answer.TheVariants as answers
 use Rattle.session_core.specs.declared.verdicts.Owed.{Owed}
 use Rattle.session_core.specs.declared.verdicts.Owed.TheVariants as owing
-use Rattle.session_core.proofs.Framing.{framed_answer}
+use Rattle.session_core.specs.declared.verdicts.Reason.TheVariants as reasons
+use Rattle.target_graph.specs.Workspace.{Space}
+use Rattle.task_stream.specs.Showing.{shows}
+use Rattle.session_core.proofs.Framing.{framed_answer, framed_build}
+use Rattle.session_core.proofs.Owing.{Owes, idle, gives, gives_unread, gives_none, keeps_asking, keeps_building}
+use Rattle.session_core.proofs.Publications.{gives_build}
 use Rattle.session_core.proofs.StandingLaws.{before}
-
-same_text : (t : List ℕ) → pointwise ◌==◌ t t ≡ true
-same_text [] = refl
-same_text (b ∷ t) = rw (eq-eqb b b refl) (same_text t)
-
-same_id_refl : (id : Id) → same_id id id ≡ true
-same_id_refl (Number n) = (Decides-int_eq n n).1 refl
-same_id_refl (Text t) = same_text t
-
--- what is known of an order that owes these answers, behind a take, a hand or the end of the input
-record Owes (opened closed : Bool) (status : Option ℕ) (requests : List Asked) (nulls : List ℤ) (past : List Event) : Type 0 where
-  lawful : Lawful past
-  opened_is : opened_after past ≡ opened
-  closed_is : closed_after past ≡ closed
-  status_is : status_after past ≡ status
-  requests_are : open_after past ≡ requests
-  nulls_are : nulls_after past ≡ nulls
-
-abbrev owed : Id → Verdict → List Asked
-owed id v = record { id = id; verdict = v } ∷ []
-
-same_or : (b : Bool) → (b || false) ≡ b
-same_or true = refl
-same_or false = refl
-
--- nothing waits, and nothing is needed
-abbrev idle : Bool → Bool → Option ℕ → State
-idle opened closed status = record { opened = opened; closed = closed; status = status; awaiting = None; need = None }
-
--- a request is owed a result, and is given it
-gives_result : (id : Id) (v : Verdict) (value : Data) (opened closed : Bool) (status : Option ℕ) (past : List Event) → Owes opened closed status (owed id v) [] past
-    → IsGranted (Some v) value → IsFramed (result (Some id) value)
-    → Keeps false (record (idle opened closed status) { opened = opened || is_opening (Some v); closed = closed || is_closing (Some v) }) (write (result (Some id) value) ∷ past)
-gives_result id v value opened closed status past o granted framed =
-    let same = same_id_refl id in
-    record {
-      lawful = record { each = (record { framed = framed; once = rw (o.requests_are, same); exact = rw (o.requests_are, same) granted }, o.lawful.each) };
-      knows = λ _. record {
-        opened_is = rw (o.opened_is, o.requests_are, same);
-        closed_is = rw (o.closed_is, o.requests_are, same);
-        status_is = o.status_is;
-        requests_are = rw (o.requests_are, same);
-        nulls_are = o.nulls_are;
-        ids = tt;
-        need_is = tt;
-      };
-    }
-
--- a request is owed a refusal, and is given it
-gives_refusal : (id : Id) (code : ℤ) (text : List ℕ) (opened closed : Bool) (status : Option ℕ) (past : List Event) → Owes opened closed status (owed id (refusal code text)) [] past
-    → IsFramed (failure (Some id) code text) → Keeps false (idle opened closed status) (write (failure (Some id) code text) ∷ past)
-gives_refusal id code text opened closed status past o framed =
-    let same = same_id_refl id in
-    record {
-      lawful = record { each = (record { framed = framed; once = rw (o.requests_are, same); exact = rw (o.requests_are, same) (refl, refl) }, o.lawful.each) };
-      knows = λ _. record {
-        opened_is = rw (o.opened_is) (same_or opened);
-        closed_is = rw (o.closed_is) (same_or closed);
-        status_is = o.status_is;
-        requests_are = rw (o.requests_are, same);
-        nulls_are = o.nulls_are;
-        ids = tt;
-        need_is = tt;
-      };
-    }
-
--- a refusal opens nothing and closes nothing
-refusal_same : (code : ℤ) (text : List ℕ) (opened closed : Bool) (status : Option ℕ)
-    → record (idle opened closed status) { opened = opened || is_opening (Some (refusal code text)); closed = closed || is_closing (Some (refusal code text)) } ≡ idle opened closed status
-refusal_same code text opened closed status = rw (same_or opened, same_or closed)
-
--- one request is owed an answer, and is given it
-gives : (id : Id) (answer : Answer) (opened closed : Bool) (status : Option ℕ) (past : List Event) → Owes opened closed status (owed id (verdict_of answer)) [] past
-    → IsFramed (answer_to id answer) → Keeps false (answered (idle opened closed status) answer) (write (answer_to id answer) ∷ past)
-gives id answers.Opening opened closed status past o framed = gives_result id opening initialize_result opened closed status past o refl framed
-gives id answers.Closing opened closed status past o framed = gives_result id closing null opened closed status past o refl framed
-gives id (answers.Refused reason) opened closed status past o framed =
-    rw (refusal_same (code_of reason) (message_of reason) opened closed status) (gives_refusal id (code_of reason) (message_of reason) opened closed status past o framed)
-
--- one code is owed with the id null, and is given
-gives_unread : (code : ℤ) (opened closed : Bool) (status : Option ℕ) (past : List Event) → Owes opened closed status [] (code ∷ []) past → IsFramed (answer_unread code)
-    → Keeps false (idle opened closed status) (write (answer_unread code) ∷ past)
-gives_unread code opened closed status past o framed =
-    record {
-      lawful = record { each = (record { framed = framed; once = record { first = code; others = []; are = o.nulls_are }; exact = rw (o.nulls_are) (refl, refl) }, o.lawful.each) };
-      knows = λ _. record {
-        opened_is = rw (o.opened_is) (same_or opened);
-        closed_is = rw (o.closed_is) (same_or closed);
-        status_is = o.status_is;
-        requests_are = o.requests_are;
-        nulls_are = rw (o.nulls_are);
-        ids = tt;
-        need_is = tt;
-      };
-    }
-
--- nothing is owed
-gives_none : (opened closed : Bool) (status : Option ℕ) (past : List Event) → Owes opened closed status [] [] past → Keeps false (idle opened closed status) past
-gives_none opened closed status past o =
-    record {
-      lawful = o.lawful;
-      knows = λ _. record {
-        opened_is = o.opened_is;
-        closed_is = o.closed_is;
-        status_is = o.status_is;
-        requests_are = o.requests_are;
-        nulls_are = o.nulls_are;
-        ids = tt;
-        need_is = tt;
-      };
-    }
-
--- an initialize is kept until it has the workspace file
-keeps_asking : (id : Id) (opened closed : Bool) (status : Option ℕ) (past : List Event) → IsId id → Owes opened closed status (owed id asking) [] past
-    → Keeps false (record { opened = opened; closed = closed; status = status; awaiting = Some (awaits.Opening id); need = Some workspace_need }) past
-keeps_asking id opened closed status past named o =
-    record {
-      lawful = o.lawful;
-      knows = λ _. record {
-        opened_is = o.opened_is;
-        closed_is = o.closed_is;
-        status_is = o.status_is;
-        requests_are = o.requests_are;
-        nulls_are = o.nulls_are;
-        ids = (named, tt);
-        need_is = refl;
-      };
-    }
 
 -- ---- what is owed once a body was taken that means this, once the input ended, and once the tree answered
 
 -- what a core knows for which nothing waits
-abbrev Rests : Bool → Bool → List Event → Type 0
-Rests opened closed order = Knows (idle opened closed None) order
+abbrev Rests : Base → List Event → Type 0
+Rests base order = Knows (idle base None) order
 
-module _ (opened closed : Bool) (order : List Event) (lawful : Lawful order) (knows : Rests opened closed order) where
+module _ (base : Base) (order : List Event) (lawful : Lawful order) (knows : Rests base order) where
   taken : (body : List ℕ) (meant : Result Said ℤ) → meaning body ≡ meant
-      → Owes opened closed (exit_status meant closed) (opened_by meant opened closed []) (nulls_for meant []) (take body ∷ order)
+      → Owes base (exit_status meant base.closed) (opened_by meant base.force base.closed []) (nulls_for meant []) (take body ∷ order)
   taken body meant means =
       record {
         lawful = record { each = (record { answered = record { requests = knows.requests_are; nulls = knows.nulls_are }; goes_on = knows.status_is }, lawful.each) };
-        opened_is = knows.opened_is;
+        force_is = knows.force_is;
         closed_is = knows.closed_is;
+        table_is = knows.table_is;
         status_is = rw (means, knows.closed_is);
-        requests_are = rw (means, knows.opened_is, knows.closed_is, knows.requests_are);
+        requests_are = rw (means, knows.force_is, knows.closed_is, knows.requests_are);
         nulls_are = rw (means, knows.nulls_are, knows.requests_are);
       }
 
-  ended : (how : InputEnd) → Owes opened closed (Some (end_status how)) [] (nulls_for_end how) (ends how ∷ order)
+  ended : (how : InputEnd) → Owes base (Some (end_status how)) [] (nulls_for_end how) (ends how ∷ order)
   ended how =
       record {
         lawful = record { each = (record { answered = record { requests = knows.requests_are; nulls = knows.nulls_are }; goes_on = knows.status_is }, lawful.each) };
-        opened_is = knows.opened_is;
+        force_is = knows.force_is;
         closed_is = knows.closed_is;
+        table_is = knows.table_is;
         status_is = refl;
         requests_are = knows.requests_are;
         nulls_are = rw (knows.nulls_are);
@@ -200,21 +75,21 @@ steps old new state messages order s quiet alive keeps =
     rw (s.state_is, queue) keeps
 
 -- nothing is needed where nothing waits
-nothing_needed : (need : Option Need) → NeedFits need None → need ≡ None
-nothing_needed None fits = refl
-nothing_needed (Some n) fits = absurd (cc)
+nothing_needed : (need : Option Need) (force : Option Space) → NeedFits need force None → need ≡ None
+nothing_needed None force fits = refl
+nothing_needed (Some n) force fits = absurd fits
 
 -- what a core is that waits for nothing and goes on
 idle_is : (core : Core) (order : List Event) → core.dead ≡ false → core.status ≡ None → core.awaiting ≡ None → Keeps core.dead (state_of core) order
-    → state_of core ≡ idle core.opened core.closed None
+    → state_of core ≡ idle (base_of core) None
 idle_is core order alive none free keeps =
-    let fits : NeedFits core.need None = subst (λ awaiting. NeedFits core.need awaiting) free ((keeps.knows alive).need_is) in
-    let needed = nothing_needed core.need fits in
+    let fits : NeedFits core.need core.workspace None = subst (λ awaiting. NeedFits core.need core.workspace awaiting) free ((keeps.knows alive).need_is) in
+    let needed = nothing_needed core.need core.workspace fits in
     rw (none, free, needed)
 
 -- what a running core knows of its order
 running : (core : Core) (order : List Event) → core.dead ≡ false → core.status ≡ None → core.awaiting ≡ None → Keeps core.dead (state_of core) order
-    → Rests core.opened core.closed order
+    → Rests (base_of core) order
 running core order alive none free keeps = subst (λ state. Knows state order) (idle_is core order alive none free keeps) (keeps.knows alive)
 
 module _ (old new : Core) (order : List Event) (quiet : old.out.items ≡ []) (alive : old.dead ≡ false) where
@@ -222,54 +97,63 @@ module _ (old new : Core) (order : List Event) (quiet : old.out.items ≡ []) (a
   Next event = Keeps false (state_of new) (onto (map said new.out.items) (event ∷ order))
 
   module _ (none : old.status ≡ None) (free : old.awaiting ≡ None) (keeps : Keeps old.dead (state_of old) order) where
-    rests : Rests old.opened old.closed order
+    abbrev base : Base
+    base = base_of old
+
+    rests : Rests base order
     rests = running old order alive none free keeps
 
-    state_is : state_of old ≡ idle old.opened old.closed None
+    state_is : state_of old ≡ idle base None
     state_is = idle_is old order alive none free keeps
 
     -- a request was taken that is owed this
-    by_owed : (event : Event) (id : Id) (o : Owed) → IsId id → Owes old.opened old.closed None (owed id (owed_verdict o)) [] (event ∷ order) → Serves old new id o → Next event
-    by_owed event id owing.Asking named owes acts =
-        steps old new _ [] (event ∷ order) acts quiet alive (subst (λ state. Keeps false (record state { awaiting = Some (awaits.Opening id); need = Some workspace_need }) (event ∷ order)) (sym state_is)
-        (keeps_asking id old.opened old.closed None (event ∷ order) named owes))
-    by_owed event id (owing.Answer answer) named owes acts =
+    by_owed : (event : Event) (id : Id) (v : Verdict) (o : Owed) → Judges base.force v o → IsSaidOwed o → IsId id → Owes base None (owed id v) [] (event ∷ order)
+        → Serves old new id o → Next event
+    by_owed event id v (owing.Asking root) judged short named owes acts =
+        steps old new _ [] (event ∷ order) acts quiet alive
+        (subst (λ state. Keeps false (record state { awaiting = Some (awaits.Opening id root); need = Some workspace_need }) (event ∷ order)) (sym state_is)
+        (keeps_asking id root base None (event ∷ order) named (subst (λ u. Owes base None (owed id u) [] (event ∷ order)) judged owes)))
+    by_owed event id v (owing.Building plan) judged short named owes acts =
+        steps old new _ [] (event ∷ order) acts quiet alive
+        (subst (λ state. Keeps false (record state { awaiting = Some (awaits.Building id plan); need = Some (needs.Tree (paths_in plan)) }) (event ∷ order)) (sym state_is)
+        (keeps_building id plan v base None (event ∷ order) named judged owes))
+    by_owed event id v (owing.Answer answer) judged short named owes acts =
         steps old new _ (answer_to id answer ∷ []) (event ∷ order) acts quiet alive
         (subst (λ state. Keeps false (answered state answer) (write (answer_to id answer) ∷ event ∷ order)) (sym state_is)
-        (gives id answer old.opened old.closed None (event ∷ order) owes (framed_answer id answer named)))
+        (gives id v answer base None (event ∷ order) judged owes (framed_answer id answer named short)))
 
     pub acted : (body : List ℕ) (meant : Result Said ℤ) → meaning body ≡ meant → Acts old new meant → Next (take body)
     acted body (Ok (request id method params)) means acts =
-        let owes = taken old.opened old.closed order keeps.lawful rests body (Ok (request id method params)) means in
-        by_owed (take body) id acts.owed acts.named (rw acts.verdict_is owes) acts.serves
+        let owes = taken base order keeps.lawful rests body (Ok (request id method params)) means in
+        by_owed (take body) id (verdict method params base.force base.closed) acts.owed acts.judged acts.short acts.named owes acts.serves
     acted body (Ok (notification method params)) means acts =
-        let owes = taken old.opened old.closed order keeps.lawful rests body (Ok (notification method params)) means in
+        let owes = taken base order keeps.lawful rests body (Ok (notification method params)) means in
         steps old new _ [] (take body ∷ order) acts quiet alive (subst (λ state. Keeps false (record state { status = status_by method old.closed old.status }) (take body ∷ order)) (sym state_is)
-        (subst (λ status. Keeps false (idle old.opened old.closed (status_by method old.closed status)) (take body ∷ order)) (sym none)
-        (gives_none old.opened old.closed (status_by method old.closed None) (take body ∷ order) owes)))
+        (subst (λ status. Keeps false (idle base (status_by method old.closed status)) (take body ∷ order)) (sym none)
+        (gives_none base (status_by method old.closed None) (take body ∷ order) owes)))
     acted body (Ok (result id value)) means acts =
-        let owes = taken old.opened old.closed order keeps.lawful rests body (Ok (result id value)) means in
-        steps old new _ [] (take body ∷ order) acts quiet alive (subst (λ state. Keeps false state (take body ∷ order)) (sym state_is) (gives_none old.opened old.closed None (take body ∷ order) owes))
+        let owes = taken base order keeps.lawful rests body (Ok (result id value)) means in
+        steps old new _ [] (take body ∷ order) acts quiet alive (subst (λ state. Keeps false state (take body ∷ order)) (sym state_is) (gives_none base None (take body ∷ order) owes))
     acted body (Ok (failure id code text)) means acts =
-        let owes = taken old.opened old.closed order keeps.lawful rests body (Ok (failure id code text)) means in
-        steps old new _ [] (take body ∷ order) acts quiet alive (subst (λ state. Keeps false state (take body ∷ order)) (sym state_is) (gives_none old.opened old.closed None (take body ∷ order) owes))
+        let owes = taken base order keeps.lawful rests body (Ok (failure id code text)) means in
+        steps old new _ [] (take body ∷ order) acts quiet alive (subst (λ state. Keeps false state (take body ∷ order)) (sym state_is) (gives_none base None (take body ∷ order) owes))
     acted body (Err code) means acts =
-        let owes = taken old.opened old.closed order keeps.lawful rests body (Err code) means in
+        let owes = taken base order keeps.lawful rests body (Err code) means in
         steps old new _ (answer_unread code ∷ []) (take body ∷ order) acts.0 quiet alive
-        (subst (λ state. Keeps false state (write (answer_unread code) ∷ take body ∷ order)) (sym state_is) (gives_unread code old.opened old.closed None (take body ∷ order) owes acts.1))
+        (subst (λ state. Keeps false state (write (answer_unread code) ∷ take body ∷ order)) (sym state_is) (gives_unread code base None (take body ∷ order) owes acts.1))
 
     pub acted_on_end : (how : InputEnd) → Ends old new how → Next (ends how)
     acted_on_end Border acts =
-        let owes = ended old.opened old.closed order keeps.lawful rests Border in
-        steps old new _ [] (ends Border ∷ order) acts quiet alive (subst (λ state. Keeps false (record state { status = Some 1 }) (ends Border ∷ order)) (sym state_is) (gives_none old.opened old.closed (Some 1) (ends Border ∷ order) owes))
+        let owes = ended base order keeps.lawful rests Border in
+        steps old new _ [] (ends Border ∷ order) acts quiet alive (subst (λ state. Keeps false (record state { status = Some 1 }) (ends Border ∷ order)) (sym state_is) (gives_none base (Some 1) (ends Border ∷ order) owes))
     acted_on_end Damaged acts =
-        let owes = ended old.opened old.closed order keeps.lawful rests Damaged in
+        let owes = ended base order keeps.lawful rests Damaged in
         steps old new _ (answer_unread parse_error ∷ []) (ends Damaged ∷ order) acts.0 quiet alive
         (subst (λ state. Keeps false (record state { status = Some 2 }) (write (answer_unread parse_error) ∷ ends Damaged ∷ order)) (sym state_is)
-        (gives_unread parse_error old.opened old.closed (Some 2) (ends Damaged ∷ order) owes acts.1))
+        (gives_unread parse_error base (Some 2) (ends Damaged ∷ order) owes acts.1))
     acted_on_end Failed acts =
-        let owes = ended old.opened old.closed order keeps.lawful rests Failed in
-        steps old new _ [] (ends Failed ∷ order) acts quiet alive (subst (λ state. Keeps false (record state { status = Some 3 }) (ends Failed ∷ order)) (sym state_is) (gives_none old.opened old.closed (Some 3) (ends Failed ∷ order) owes))
+        let owes = ended base order keeps.lawful rests Failed in
+        steps old new _ [] (ends Failed ∷ order) acts quiet alive (subst (λ state. Keeps false (record state { status = Some 3 }) (ends Failed ∷ order)) (sym state_is) (gives_none base (Some 3) (ends Failed ∷ order) owes))
 
     pub may_take : (body : List ℕ) → Lawful (take body ∷ order)
     may_take body =
@@ -286,40 +170,93 @@ module _ (old new : Core) (order : List Event) (quiet : old.out.items ≡ []) (a
   -- ---- what the tree handed out
 
   module _ (got : Option Snapshot) (needless : old.need ≡ None) (suits : Suits old got) (keeps : Keeps old.dead (state_of old) order) where
+    handed : Option Entries
+    handed = handed_of got
+
+    behind : List Event
+    behind = hand (handed_of got) ∷ order
+
     pub may_hand : Lawful (hand (handed_of got) ∷ order)
     may_hand =
         let knows = keeps.knows alive in
-        record { each = (record { paths = suits.paths; wanted = rw (knows.requests_are) suits.awaited; held = suits.held }, keeps.lawful.each) }
+        record { each = (record { paths = suits.paths; wanted = subst (λ requests. WantedBy requests suits.paths) (sym knows.requests_are) suits.awaited; held = suits.held }, keeps.lawful.each) }
 
-    over : (g : Option Snapshot) → handed_over (handed_of g) asking ≡ verdict_of (opening_answer g)
-    over None = refl
-    over (Some snapshot) = refl
-
-    -- the initialize that waited is owed its answer
-    handed : (id : Id) → old.awaiting ≡ Some (awaits.Opening id)
-        → Owes old.opened old.closed old.status (owed id (verdict_of (opening_answer got))) [] (hand (handed_of got) ∷ order)
-    handed id waits =
+    -- the request that waited is owed its answer
+    owes_on : (id : Id) (v : Verdict) → asked_by old.workspace old.awaiting ≡ owed id v → Owes (base_of old) old.status (owed id (handed_over (handed_of got) v)) [] (hand (handed_of got) ∷ order)
+    owes_on id v waits =
         let knows = keeps.knows alive in
         record {
           lawful = may_hand;
-          opened_is = knows.opened_is;
+          force_is = knows.force_is;
           closed_is = knows.closed_is;
+          table_is = knows.table_is;
           status_is = knows.status_is;
-          requests_are = ap (handed_by (handed_of got)) (knows.requests_are ∙ ap asked_by waits) ∙ ap (owed id) (over got);
+          requests_are = ap (handed_by (handed_of got)) (knows.requests_are ∙ waits);
           nulls_are = knows.nulls_are;
         }
 
+    -- it has an id
+    named_on : (id : Id) (v : Verdict) → asked_by old.workspace old.awaiting ≡ owed id v → IsId id
+    named_on id v waits = (subst EachId waits (keeps.knows alive).ids).0
+
+    -- it is answered at once
+    answered_on : (id : Id) (v : Verdict) → asked_by old.workspace old.awaiting ≡ owed id v → AnswersAs old new id (handed_over (handed_of got) v) → Next (hand (handed_of got))
+    answered_on id v waits acts =
+        let given = gives id (handed_over (handed_of got) v) acts.answer (base_of old) old.status (hand (handed_of got) ∷ order) acts.fits (owes_on id v waits)
+        (framed_answer id acts.answer (named_on id v waits) acts.short) in
+        steps old new _ (answer_to id acts.answer ∷ []) (hand (handed_of got) ∷ order) acts.answers quiet alive
+        (subst (λ need. Keeps false (record (answered (idle (base_of old) old.status) acts.answer) { need = need }) (write (answer_to id acts.answer) ∷ hand (handed_of got) ∷ order))
+        (sym needless) given)
+
+    -- a build is published and answered
+    built_on : (id : Id) (space : Space) (plan : Plan) (entries : Entries) → handed_of got ≡ Some entries → asked_by old.workspace old.awaiting ≡ owed id (building (build_in space plan))
+        → ArePlaces (build_in space plan) plan.places → Builds old new id plan entries → Next (hand (handed_of got))
+    built_on id space plan entries is waits places acts =
+        let p = acts.published in
+        let build = build_in space plan in
+        let clean : CleanBuild build entries p.findings = record { places = subst (ArePlaces build) (sym p.of_places) places; found = p.found } in
+        let owes = subst (λ h. Owes (base_of old) old.status (owed id (handed_over h (building build))) [] (hand (handed_of got) ∷ order)) is (owes_on id (building build) waits) in
+        let kept : shows new.shown ≡ table_with acts.messages (shows old.shown) = λ i document target. p.kept document target i in
+        let answer_is : build_answer id build p.findings ≡ build_said id plan.origin acts.failed = ap (build_said id plan.origin) (sym p.failed_is) in
+        let framed = subst IsFramed (sym answer_is) (framed_build id plan.origin acts.failed (named_on id (building build) waits) acts.short) in
+        let given = gives_build id build entries (base_of old) old.status p.findings clean acts.messages p.publishes (shows new.shown) (hand (handed_of got) ∷ order) refl
+        ((keeps.knows alive).table_is) owes p.framed p.notices kept p.shows framed in
+        let said_so = subst (λ m. Keeps false (idle (record (base_of old) { table = shows new.shown }) old.status) (onto (acts.messages ++ m ∷ []) (hand (handed_of got) ∷ order))) answer_is given in
+        steps old new _ (acts.messages ++ build_said id plan.origin acts.failed ∷ []) (hand (handed_of got) ∷ order) acts.steps quiet alive
+        (subst (λ need. Keeps false (record (idle (record (base_of old) { table = shows new.shown }) old.status) { need = need })
+        (onto (acts.messages ++ build_said id plan.origin acts.failed ∷ []) (hand (handed_of got) ∷ order))) (sym needless) said_so)
+
+    builds_on : (id : Id) (plan : Plan) (force : Option Space) (h : Option Entries) → old.workspace ≡ force → handed_of got ≡ h → old.awaiting ≡ Some (awaits.Building id plan)
+        → BuildsOn old new id plan h → Next (hand (handed_of got))
+    builds_on id plan None h in_force is waits acts =
+        let fits : PlanFits None (Some (awaits.Building id plan)) = subst (λ f. PlanFits f (Some (awaits.Building id plan))) in_force
+        (subst (λ a. PlanFits old.workspace a) waits (keeps.knows alive).plan_is) in
+        absurd fits
+    builds_on id plan (Some space) None in_force is waits acts =
+        let asked : asked_by old.workspace old.awaiting ≡ owed id (building (build_in space plan)) = ap (asked_by old.workspace) waits ∙ ap (λ f. asked_by f (Some (awaits.Building id plan))) in_force in
+        answered_on id (building (build_in space plan)) asked (subst (λ h. AnswersAs old new id (handed_over h (building (build_in space plan)))) (sym is) acts)
+    builds_on id plan (Some space) (Some entries) in_force is waits acts =
+        let asked : asked_by old.workspace old.awaiting ≡ owed id (building (build_in space plan)) = ap (asked_by old.workspace) waits ∙ ap (λ f. asked_by f (Some (awaits.Building id plan))) in_force in
+        let fits : PlanFits (Some space) (Some (awaits.Building id plan)) = subst (λ f. PlanFits f (Some (awaits.Building id plan))) in_force
+        (subst (λ a. PlanFits old.workspace a) waits (keeps.knows alive).plan_is) in
+        built_on id space plan entries is asked fits acts
+
     pub acted_on_hand : (awaiting : Option Awaiting) → old.awaiting ≡ awaiting → ActsOnHand old new awaiting got → Next (hand (handed_of got))
     acted_on_hand None is acts =
-        let none : None ≡ Some suits.paths = sym (ap (λ a. wanted_by (asked_by a)) is) ∙ suits.awaited in
-        absurd (cc)
-    acted_on_hand (Some (awaits.Opening id)) is acts =
-        let answer = opening_answer got in
-        let named : EachId (owed id asking) = subst (λ a. EachId (asked_by a)) is (keeps.knows alive).ids in
-        let given = gives id answer old.opened old.closed old.status (hand (handed_of got) ∷ order) (handed id is) (framed_answer id answer named.0) in
-        steps old new _ (answer_to id answer ∷ []) (hand (handed_of got) ∷ order) acts quiet alive
-        (subst (λ need. Keeps false (record (answered (idle old.opened old.closed old.status) answer) { need = need }) (write (answer_to id answer) ∷ hand (handed_of got) ∷ order))
-        (sym needless) given)
+        let none : WantedBy [] suits.paths = subst (λ a. WantedBy (asked_by old.workspace a) suits.paths) is suits.awaited in
+        absurd none
+    acted_on_hand (Some (awaits.Opening id root)) is acts = answered_on id (asking root) (ap (asked_by old.workspace) is) acts
+    acted_on_hand (Some (awaits.Building id plan)) is acts = builds_on id plan old.workspace (handed_of got) refl refl is acts
+
+-- a build whose documents couldn't be handed out is refused
+pub refuses_unread : (old new : Core) (id : Id) → old.awaiting ≡ None → Answers old new id (answers.Refused reasons.Unreadable) → AnswersAs old new id unreadable
+refuses_unread old new id free acts =
+    record {
+      answer = answers.Refused reasons.Unreadable;
+      fits = (refl, refl);
+      short = tt;
+      answers = subst (λ a. Steps old new (record (state_of old) { awaiting = a }) (answer_to id (answers.Refused reasons.Unreadable) ∷ [])) free acts;
+    }
 
 -- ---- either way
 

@@ -3,9 +3,13 @@ use Rattle.std.specs.Prelude.{◌≡◌, ℕ, List, [], ◌∷◌, length, map, 
 use Rattle.ob_text.specs.declared.held.Snapshot.{Snapshot}
 use Rattle.rpc_peer.specs.Said.{Said, said, IsId}
 use Rattle.session_law.specs.Lawful.{Lawful, AreHeld}
-use Rattle.session_law.specs.Order.{Entries, Event, write}
-use Rattle.session_law.specs.Past.{Asked, wanted_by, open_after, nulls_after, opened_after, closed_after, status_after}
+use Rattle.session_law.specs.Order.{Event, write}
+use Rattle.session_law.specs.Builds.{ArePlaces}
+use Rattle.session_law.specs.Past.{Asked, WantedBy, open_after, nulls_after, force_after, closed_after, status_after, table_after}
+use Rattle.session_core.specs.Plans.{Plan, build_in}
 use Rattle.session_core.specs.State.{State, state_of, asked_by, paths_of, handed_of}
+use Rattle.session_core.specs.declared.awaiting.Awaiting.TheVariants as awaits
+use Rattle.target_graph.specs.Workspace.{Space}
 use Rattle.session_core.specs.declared.awaiting.Awaiting.{Awaiting}
 use Rattle.session_core.specs.declared.awaiting.Need.{Need}
 use Rattle.session_core.specs.declared.session.Core.{Core}
@@ -16,8 +20,18 @@ onto [] order = order
 onto (m ∷ messages) order = onto messages (write m ∷ order)
 
 -- what is needed is what the open request wants
-abbrev pub NeedFits : Option Need → Option Awaiting → Type 0
-NeedFits need awaiting = IfSome need (λ n. wanted_by (asked_by awaiting) ≡ Some (paths_of n))
+abbrev pub NeedFits : Option Need → Option Space → Option Awaiting → Type 0
+NeedFits need force awaiting = IfSome need (λ n. WantedBy (asked_by force awaiting) (paths_of n))
+
+abbrev pub AreIn : Option Space → Plan → Type 0
+AreIn None plan = ⊥
+AreIn (Some space) plan = ArePlaces (build_in space plan) plan.places
+
+-- a build that waits has its documents, by the workspace in force
+abbrev pub PlanFits : Option Space → Option Awaiting → Type 0
+PlanFits force None = Unit {0}
+PlanFits force (Some (awaits.Opening id root)) = Unit {0}
+PlanFits force (Some (awaits.Building id plan)) = AreIn force plan
 
 -- the requests have ids
 abbrev pub EachId : List Asked → Type 0
@@ -26,13 +40,15 @@ EachId (asked ∷ others) = IsId asked.id × EachId others
 
 -- what a core that found memory so far knows of an order
 pub record Knows (state : State) (order : List Event) : Type 0 where
-  pub opened_is : opened_after order ≡ state.opened
-  pub closed_is : closed_after order ≡ state.closed
+  pub force_is : force_after order ≡ state.base.force
+  pub closed_is : closed_after order ≡ state.base.closed
+  pub table_is : table_after order ≡ state.base.table
   pub status_is : status_after order ≡ state.status
-  pub requests_are : open_after order ≡ asked_by state.awaiting
+  pub requests_are : open_after order ≡ asked_by state.base.force state.awaiting
   pub nulls_are : nulls_after order ≡ []
-  pub ids : EachId (asked_by state.awaiting)
-  pub need_is : NeedFits state.need state.awaiting
+  pub ids : EachId (asked_by state.base.force state.awaiting)
+  pub need_is : NeedFits state.need state.base.force state.awaiting
+  pub plan_is : PlanFits state.base.force state.awaiting
 
 -- A core that found no memory keeps a lawful order, and promises no more of it.
 pub record Keeps (dead : Bool) (state : State) (order : List Event) : Type 0 where
@@ -54,7 +70,7 @@ IsFree core = core.awaiting ≡ None
 
 -- the tree may be asked for these paths, for the request that waits
 abbrev pub Awaits : Core → List (List ℕ) → Type 0
-Awaits core paths = wanted_by (asked_by core.awaiting) ≡ Some paths
+Awaits core paths = WantedBy (asked_by core.workspace core.awaiting) paths
 
 -- the tree needn't be asked
 abbrev pub NeedsNothing : Core → Type 0

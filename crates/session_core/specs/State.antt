@@ -1,29 +1,54 @@
 -- What a core keeps of a session, beside the messages that it has to write.
 use Rattle.std.specs.Prelude.{ℕ, List, [], ◌∷◌, Bool, Option, None, Some, option_map}
+use Rattle.bsp_records.specs.Table.{Table}
 use Rattle.ob_text.specs.declared.held.Snapshot.{Snapshot}
-use Rattle.session_law.specs.Methods.{asking, workspace_path}
+use Rattle.rpc_peer.specs.declared.message.Id.{Id}
+use Rattle.session_law.specs.Methods.{Verdict, asking, building, workspace_path}
 use Rattle.session_law.specs.Order.{Entries}
 use Rattle.session_law.specs.Past.{Asked}
+use Rattle.session_core.specs.Plans.{Plan, build_in}
 use Rattle.session_core.specs.declared.awaiting.Awaiting.{Awaiting}
 use Rattle.session_core.specs.declared.awaiting.Awaiting.TheVariants as awaits
 use Rattle.session_core.specs.declared.awaiting.Need.{Need}
 use Rattle.session_core.specs.declared.awaiting.Need.TheVariants as needs
 use Rattle.session_core.specs.declared.session.Core.{Core}
+use Rattle.target_graph.specs.Workspace.{Space}
+use Rattle.task_stream.specs.Showing.{shows}
+
+-- what stays as it is until a request is answered
+pub record Base : Type 0 where
+  -- the workspace in force
+  pub force : Option Space
+  pub closed : Bool
+  -- what a client shows
+  pub table : Table
 
 pub record State : Type 0 where
-  pub opened : Bool
-  pub closed : Bool
+  pub base : Base
   pub status : Option ℕ
   pub awaiting : Option Awaiting
   pub need : Option Need
 
+abbrev pub base_of : Core → Base
+base_of core = record { force = core.workspace; closed = core.closed; table = shows core.shown }
+
 abbrev pub state_of : Core → State
-state_of core = record { opened = core.opened; closed = core.closed; status = core.status; awaiting = core.awaiting; need = core.need }
+state_of core = record { base = base_of core; status = core.status; awaiting = core.awaiting; need = core.need }
+
+-- one open request that is owed this
+abbrev pub owed : Id → Verdict → List Asked
+owed id v = record { id = id; verdict = v } ∷ []
+
+-- a build is of the workspace in force
+abbrev pub building_in : Option Space → Id → Plan → List Asked
+building_in None id plan = []
+building_in (Some space) id plan = owed id (building (build_in space plan))
 
 -- the open request that waits for the tree, as the law has it
-abbrev pub asked_by : Option Awaiting → List Asked
-asked_by None = []
-asked_by (Some (awaits.Opening id)) = record { id = id; verdict = asking } ∷ []
+abbrev pub asked_by : Option Space → Option Awaiting → List Asked
+asked_by force None = []
+asked_by force (Some (awaits.Opening id root)) = owed id (asking root)
+asked_by force (Some (awaits.Building id plan)) = building_in force id plan
 
 -- the paths that the tree is to be asked for
 abbrev pub paths_of : Need → List (List ℕ)

@@ -1,11 +1,17 @@
 ghost use Rattle.std.specs.Prelude.{◌≡◌, IfOk};
+ghost use Rattle.std.specs.Option.{IfSome};
+ghost use Rattle.bsp_records.specs.Shapes.{IsTextWithin};
+ghost use Rattle.bsp_records.specs.declared.kinds.TheConstants.{ORIGIN_LIMIT};
 ghost use Rattle.serde_json.specs.View.{view};
 ghost use Rattle.rpc_peer.specs.Said.{said, result as answers, failure};
+ghost use Rattle.session_law.specs.Builds.{build_said};
 ghost use Rattle.session_law.specs.Lawful.{IsFramed};
 ghost use Rattle.session_law.specs.Methods.{capabilities, initialize_result, null_message};
-ghost use Rattle.session_core.specs.Acting.{answer_to, answer_unread};
+ghost use Rattle.session_core.specs.Acting.{answer_unread};
+ghost use Rattle.session_core.specs.Judging.{answer_to};
 
 use crate::verdicts::Answer;
+use bsp_records::{CompileResult, StatusCode, write_compile_result};
 use ob_text::{NoMemory, Text};
 use rpc_peer::{ErrorObject, Id, Message};
 use serde_json::{Value, json};
@@ -15,17 +21,47 @@ use std::alloc::{AllocError, Global};
 pub const PARSE_ERROR: i32 = -32700;
 
 /// The response that gives a request this answer.
-pub fn response(alloc: Global, id: Id, answer: Answer) -> Result<Message, NoMemory>
-    ensures { IfOk result (λ m. said m ≡ answer_to id answer) }
+pub fn response(alloc: Global, id: Id, answer: &Answer) -> Result<Message, NoMemory>
+    ensures { IfOk result (λ m. said m ≡ answer_to id answer.now) }
 {
     match answer {
-        Answer::Opening => {
+        Answer::Opening(_) => {
             let value = initialize_value(alloc)?;
             Ok(success(id, value))
         }
         Answer::Closing => Ok(success(id, Value::Null)),
-        Answer::Refused(reason) => failure(alloc, Some(id), reason.code(), reason.message()),
+        Answer::Refused(reason) => {
+            let message = reason.message(alloc)?;
+            Ok(failure(Some(id), reason.code(), message))
+        }
     }
+}
+
+/// The response to a compile that was sent with this `originId`, where a document has an error and where none has.
+#[tactic(auto, unfolding(session_law::specs::Builds::build_said))]
+pub fn compiled(
+    alloc: Global,
+    id: Id,
+    origin: &Option<Text>,
+    failed: bool,
+) -> Result<Message, NoMemory>
+    requires { IfSome origin.now (IsTextWithin ORIGIN_LIMIT) }
+    ensures { IfOk result (λ m. said m ≡ build_said id origin.now failed) }
+{
+    let origin_id = match origin {
+        Some(text) => Some(text.copy(alloc)?),
+        None => None,
+    };
+    let status_code = if failed {
+        StatusCode::Error
+    } else {
+        StatusCode::Ok
+    };
+    let answer = CompileResult {
+        origin_id,
+        status_code,
+    };
+    Ok(success(id, write_compile_result(alloc, &answer)?))
 }
 
 /// The response to what couldn't be read, with this code.
@@ -33,7 +69,8 @@ pub fn unread_answer(alloc: Global, code: i32) -> Result<Message, NoMemory>
     ensures answer { IfOk result (λ m. said m ≡ answer_unread code) }
     ensures framed { IsFramed (answer_unread code) }
 {
-    failure(alloc, None, i64::from(code), unread_message(code))
+    let message = Text::new(alloc, unread_message(code))?;
+    Ok(failure(None, i64::from(code), message))
 }
 
 #[tactic(auto, unfolding(session_law::specs::Methods::null_message))]
@@ -56,14 +93,13 @@ fn success(id: Id, value: Value) -> Message
     }
 }
 
-fn failure(alloc: Global, id: Option<Id>, code: i64, message: &[u8]) -> Result<Message, NoMemory>
-    ensures { IfOk result (λ m. said m ≡ failure id code message.now) }
+fn failure(id: Option<Id>, code: i64, message: Text) -> Message
+    ensures { said result ≡ failure id code message }
 {
-    let message = Text::new(alloc, message)?;
-    Ok(Message::Response {
+    Message::Response {
         id,
         answer: Err(ErrorObject { code, message }),
-    })
+    }
 }
 
 #[tactic(auto, unfolding(session_law::specs::Methods::initialize_result))]

@@ -4,6 +4,9 @@
 
 mod answers;
 mod awaiting;
+mod judging;
+mod planned;
+mod reasons;
 mod session;
 mod verdicts;
 

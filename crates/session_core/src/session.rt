@@ -1,11 +1,23 @@
-use crate::answers::{PARSE_ERROR, response, unread_answer};
-use crate::awaiting::{Awaiting, Need, workspace_paths};
-use crate::verdicts::{Answer, Owed, Reason, judge};
-use ob_text::{NoMemory, Snapshot};
+ghost use Rattle.std.specs.Prelude.{IfOk};
+ghost use Rattle.session_law.specs.Methods.{asking};
+ghost use Rattle.session_law.specs.Past.{handed_over};
+ghost use Rattle.session_core.specs.Judging.{Fits, IsSaid};
+ghost use Rattle.session_core.specs.State.{handed_of};
+
+use crate::answers::{PARSE_ERROR, compiled, response, unread_answer};
+use crate::awaiting::{Awaiting, Need, workspace_path, workspace_paths};
+use crate::judging::{judge, judge_workspace};
+use crate::planned::Planned;
+use crate::verdicts::{Answer, Owed, Reason};
+use ob_text::{Held, NoMemory, Snapshot, Text};
 use rpc_peer::{Id, Message, Refusal, read_message};
+use serde_json::Value;
+use session_build::{Published, paths_of, publish_all};
 use session_law::InputEnd;
 use std::alloc::Global;
 use std::collections::VecDeque;
+use target_graph::{Root, Workspace};
+use task_stream::Shown;
 
 const EXIT: &[u8] = b"build/exit";
 
@@ -16,11 +28,13 @@ const EXIT: &[u8] = b"build/exit";
 pub struct Core {
     alloc: Global,
     out: VecDeque<Message>,
-    // An initialize was answered with a result.
-    opened: bool,
+    // The workspace in force, once an initialize was answered with a result.
+    workspace: Option<Workspace>,
     // A shutdown was answered with a result.
     closed: bool,
     status: Option<u8>,
+    // What a client shows.
+    shown: Shown,
     // The request that waits for what the tree holds.
     awaiting: Option<Awaiting>,
     // What the tree is to be asked for it, until that is taken.
@@ -29,15 +43,18 @@ pub struct Core {
 }
 
 impl Core {
-    ghost use Rattle.std.specs.Prelude.{◌≡◌, ◌<◌, [], ◌∷◌, ◌↔◌, List, None, Ok, IsTrue, IfSome, IfNone, OnOk, OnErr};
+    ghost use Rattle.std.specs.Prelude.{◌≡◌, ◌<◌, [], ◌∷◌, ◌↔◌, List, None, Ok, IsTrue, IfSome, IfNone, OnOk, OnErr, option_map};
     ghost use Rattle.rpc_peer.specs.Meaning.{meaning};
     ghost use Rattle.rpc_peer.specs.Said.{said, HasId, IsId};
     ghost use Rattle.session_law.specs.Lawful.{IsFramed};
-    ghost use Rattle.session_law.specs.Methods.{verdict};
+    ghost use Rattle.session_law.specs.Methods.{asking, unreadable, verdict};
     ghost use Rattle.session_law.specs.Order.{Event, take, ends, hand, write};
-    ghost use Rattle.session_core.specs.Acting.{Acts, ActsOnHand, Answers, AnswersUnread, Asks, Ends, ServesAs, Steps, opening_answer, status_by};
+    ghost use Rattle.session_core.specs.Acting.{Acts, ActsOnHand, Answers, AnswersUnread, Asks, Builds, BuildsOn, Ends, Plans, ServesAs, AnswersAs, Steps, status_by};
+    ghost use Rattle.session_core.specs.Reading.{AreReadable};
     ghost use Rattle.session_core.specs.Standing.{StandsFor, Awaits, Suits, IsFree, NeedsNothing, NeedsWhatItAwaits, IsQuiet, IsAlive, status_of, left_to_write};
     ghost use Rattle.session_core.specs.State.{handed_of, paths_of, state_of};
+    ghost use Rattle.session_law.specs.Past.{handed_over};
+    ghost use Rattle.serde_json.specs.View.{view};
 
     /// A session in which nothing happened yet.
     pub fn new(alloc: Global) -> Core
@@ -50,9 +67,10 @@ impl Core {
         Core {
             alloc,
             out: VecDeque::new(alloc),
-            opened: false,
+            workspace: None,
             closed: false,
             status: None,
+            shown: Shown::new(alloc),
             awaiting: None,
             need: None,
             dead: false,
@@ -175,11 +193,7 @@ impl Core {
         ensures err { OnErr result (self.new.out.items ≡ self.old.out.items) }
     {
         match message {
-            Message::Request {
-                id,
-                method,
-                params: _,
-            } => self.serve(id, method.as_slice()),
+            Message::Request { id, method, params } => self.serve(id, &method, &params),
             Message::Notification { method, params: _ } => {
                 self.heed(method.as_slice());
                 Ok(())
@@ -189,27 +203,41 @@ impl Core {
     }
 
     // Gives a request what it is owed, or keeps it until the tree was asked.
-    fn serve(&mut self, id: Id, method: &[u8]) -> Result<(), NoMemory>
+    fn serve(&mut self, id: Id, method: &Text, params: &Option<Value>) -> Result<(), NoMemory>
         requires { IsId id }
         ensures ok { OnOk result (ServesAs self.old self.new id
-            (verdict method.now self.old.opened self.old.closed)) }
+            (verdict method.now (option_map view params.now) self.old.workspace self.old.closed)) }
         ensures alive { self.new.dead ≡ self.old.dead }
         ensures err { OnErr result (self.new.out.items ≡ self.old.out.items) }
     {
-        match judge(method, self.opened, self.closed) {
-            Owed::Asking => self.ask(id),
+        let method = method.as_slice();
+        match judge(self.alloc, method, params, &self.workspace, self.closed)? {
+            Owed::Asking(root) => self.ask(id, root),
+            Owed::Building(planned) => self.plan(id, planned),
             Owed::Answer(answer) => self.answer(id, answer),
         }
     }
 
     // Keeps an initialize until it has the workspace file.
-    fn ask(&mut self, id: Id) -> Result<(), NoMemory>
-        ensures ok { OnOk result (Asks self.old self.new id) }
+    fn ask(&mut self, id: Id, root: Root) -> Result<(), NoMemory>
+        ensures ok { OnOk result (Asks self.old self.new id root) }
         ensures alive { self.new.dead ≡ self.old.dead }
         ensures err { OnErr result (self.new.out.items ≡ self.old.out.items) }
     {
         let paths = workspace_paths(self.alloc)?;
-        self.awaiting = Some(Awaiting::Opening { id });
+        self.awaiting = Some(Awaiting::Opening { id, root });
+        self.need = Some(Need::Tree(paths));
+        Ok(())
+    }
+
+    // Keeps a build until it has its documents.
+    fn plan(&mut self, id: Id, planned: Planned) -> Result<(), NoMemory>
+        ensures ok { OnOk result (Plans self.old self.new id planned) }
+        ensures alive { self.new.dead ≡ self.old.dead }
+        ensures err { OnErr result (self.new.out.items ≡ self.old.out.items) }
+    {
+        let paths = paths_of(self.alloc, planned.places())?;
+        self.awaiting = Some(Awaiting::Building { id, planned });
         self.need = Some(Need::Tree(paths));
         Ok(())
     }
@@ -222,14 +250,19 @@ impl Core {
         ensures status { self.new.status ≡ self.old.status }
         ensures err { OnErr result (self.new.out.items ≡ self.old.out.items) }
     {
-        let message = response(self.alloc, id, answer)?;
+        let message = response(self.alloc, id, &answer)?;
         self.out.push_back(message)?;
-        self.opened = self.opened || answer.opens();
-        self.closed = self.closed || answer.closes();
+        match answer {
+            Answer::Opening(workspace) => self.workspace = Some(workspace),
+            Answer::Closing => self.closed = true,
+            Answer::Refused(_reason) => {}
+        }
         Ok(())
     }
 
     fn act_on_hand(&mut self, got: Option<Snapshot>) -> Result<(), NoMemory>
+        requires quiet { IsQuiet self.old }
+        requires texts { AreReadable (handed_of got) }
         ensures ok { OnOk result (ActsOnHand self.old self.new self.old.awaiting got) }
         ensures found { OnOk result (IsAlive self.old) }
         ensures free { OnOk result (self.new.awaiting ≡ None) }
@@ -240,23 +273,73 @@ impl Core {
             return Err(NoMemory);
         }
         match self.awaiting.take() {
-            Some(Awaiting::Opening { id }) => self.open(id, got),
+            Some(Awaiting::Opening { id, root }) => self.open(id, root, got),
+            Some(Awaiting::Building { id, planned }) => self.build(id, planned, got),
             None => Ok(()),
         }
     }
 
     // Answers the initialize that waited for the workspace file.
-    fn open(&mut self, id: Id, got: Option<Snapshot>) -> Result<(), NoMemory>
-        ensures ok { OnOk result (Answers self.old self.new id (opening_answer got)) }
+    fn open(&mut self, id: Id, root: Root, got: Option<Snapshot>) -> Result<(), NoMemory>
+        requires free { IsFree self.old }
+        ensures ok { OnOk result (AnswersAs self.old self.new id
+            (handed_over (handed_of got) (asking root))) }
+        ensures alive { self.new.dead ≡ self.old.dead }
+        ensures free { self.new.awaiting ≡ self.old.awaiting }
+        ensures status { self.new.status ≡ self.old.status }
+        ensures err { OnErr result (self.new.out.items ≡ self.old.out.items) }
+    {
+        let answer = opening_answer(self.alloc, root, got)?;
+        self.answer(id, answer)
+    }
+
+    // Goes on with the build that waited for its documents.
+    fn build(&mut self, id: Id, planned: Planned, got: Option<Snapshot>) -> Result<(), NoMemory>
+        requires quiet { IsQuiet self.old }
+        requires free { IsFree self.old }
+        requires texts { AreReadable (handed_of got) }
+        ensures ok { OnOk result (BuildsOn self.old self.new id planned (handed_of got)) }
         ensures alive { self.new.dead ≡ self.old.dead }
         ensures free { self.new.awaiting ≡ self.old.awaiting }
         ensures status { self.new.status ≡ self.old.status }
         ensures err { OnErr result (self.new.out.items ≡ self.old.out.items) }
     {
         match got {
-            Some(_) => self.answer(id, Answer::Opening),
-            None => self.answer(id, Answer::Refused(Reason::Unreadable)),
+            Some(snapshot) => self.publish(id, &planned, &snapshot),
+            None => self.refuse_unread(id),
         }
+    }
+
+    // Refuses a build whose documents the tree couldn't hand out.
+    fn refuse_unread(&mut self, id: Id) -> Result<(), NoMemory>
+        requires free { IsFree self.old }
+        ensures ok { OnOk result (AnswersAs self.old self.new id unreadable) }
+        ensures alive { self.new.dead ≡ self.old.dead }
+        ensures free { self.new.awaiting ≡ self.old.awaiting }
+        ensures status { self.new.status ≡ self.old.status }
+        ensures err { OnErr result (self.new.out.items ≡ self.old.out.items) }
+    {
+        self.answer(id, Answer::Refused(Reason::Unreadable))
+    }
+
+    // Publishes what the build finds, and answers it.
+    fn publish(&mut self, id: Id, planned: &Planned, snapshot: &Snapshot) -> Result<(), NoMemory>
+        requires quiet { IsQuiet self.old }
+        requires free { IsFree self.old }
+        requires texts { AreReadable (Some snapshot.now.entries) }
+        ensures ok { OnOk result (Builds self.old self.new id planned.now snapshot.now.entries) }
+        ensures alive { self.new.dead ≡ self.old.dead }
+        ensures free { self.new.awaiting ≡ self.old.awaiting }
+        ensures status { self.new.status ≡ self.old.status }
+        ensures err { OnErr result (self.new.out.items ≡ self.old.out.items) }
+    {
+        let (places, origin) = (planned.places(), planned.origin());
+        let published = publish_all(self.alloc, &mut self.shown, places, origin, snapshot)?;
+        let Published { messages, failed } = published;
+        let mut messages = messages;
+        messages.push_back(compiled(self.alloc, id, origin, failed)?)?;
+        self.out = messages;
+        Ok(())
     }
 
     // Acts on a notification: an exit ends the session, others are dropped.
@@ -298,5 +381,19 @@ impl Core {
             InputEnd::Failed => 3,
         });
         Ok(())
+    }
+}
+
+// How an initialize with this root is answered, once the tree answered.
+fn opening_answer(alloc: Global, root: Root, got: Option<Snapshot>) -> Result<Answer, NoMemory>
+    ensures fits { IfOk result (Fits (handed_over (handed_of got) (asking root))) }
+    ensures short { IfOk result IsSaid }
+{
+    match got {
+        Some(snapshot) => {
+            let path = workspace_path(alloc)?;
+            judge_workspace(alloc, snapshot.get(&path).unwrap_or(&Held::Absent), root)
+        }
+        None => Ok(Answer::Refused(Reason::Unreadable)),
     }
 }

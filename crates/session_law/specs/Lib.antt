@@ -1,4 +1,5 @@
 pub mod Order
 pub mod Methods
+pub mod Builds
 pub mod Past
 pub mod Lawful

@@ -1,8 +1,17 @@
 -- The methods of the Build Server Protocol 2.2 that the session answers, and what it answers them.
-use Rattle.std.specs.Prelude.{◌==◌, ◌&&◌, ℕ, ℤ, negsuc, List, [], ◌∷◌, codes, Bool, true, not, Option, Some, None, if◌then◌else◌}
+use Rattle.std.specs.Prelude.{◌==◌, ◌+◌, ℕ, ℤ, negsuc, List, [], ◌∷◌, ◌++◌, codes, decimal, Bool, true, Option, Some, None, is_some, option_map, option_and_then, if◌then◌else◌}
 use Rattle.std.specs.Cmp.Lexicographic.{pointwise}
 use Rattle.std.specs.Ordering.{int_eq}
+use Rattle.ob_text.specs.declared.held.Held.{Held}
+use Rattle.bsp_records.specs.Params.{initialize_params, initialize_params_in, build_params, compile_params_in}
+use Rattle.bsp_records.specs.Shapes.{bad_params}
 use Rattle.rpc_peer.specs.Meaning.{invalid_request, parse_error}
+use Rattle.bsp_records.specs.declared.identifiers.BuildTargetIdentifier.{BuildTargetIdentifier}
+use Rattle.target_graph.specs.Address.{root_at}
+use Rattle.target_graph.specs.Workspace.{Space, named}
+use Rattle.target_graph.specs.declared.fault.FaultKind.{FaultKind}
+use Rattle.target_graph.specs.declared.fault.FaultKind.TheVariants as kinds
+use Rattle.session_law.specs.Order.{Entries}
 use Rattle.serde_json.specs.Data.{Data, boolean, string, array, object, item, no_items, member, no_members}
 
 abbrev pub is_named : List ℕ → List ℕ → Bool
@@ -16,7 +25,14 @@ method_not_found = negsuc 32600
 abbrev pub sources_unreadable : ℤ
 sources_unreadable = negsuc 32602
 
--- the server's own code (Language Server Protocol 3.17, ErrorCodes)
+abbrev pub invalid_params : ℤ
+invalid_params = negsuc 32601
+
+-- a code of this server's own
+abbrev pub workspace_refused : ℤ
+workspace_refused = negsuc 32009
+
+-- ServerNotInitialized (Language Server Protocol 3.17, ErrorCodes)
 abbrev pub not_initialized : ℤ
 not_initialized = negsuc 32001
 
@@ -48,14 +64,45 @@ initialize_result =
     (member (codes "displayName") (string (codes "oberon-bsp"))
     (member (codes "version") (string (codes "1.0.0")) no_members))))
 
+-- ---- why a workspace is refused
+
+abbrev pub kind_text : FaultKind → List ℕ
+kind_text kinds.NoFile = codes "NoFile"
+kind_text kinds.BadJson = codes "BadJson"
+kind_text kinds.BadField = codes "BadField"
+kind_text kinds.TooMany = codes "TooMany"
+kind_text kinds.NameTwice = codes "NameTwice"
+kind_text kinds.UnknownDependency = codes "UnknownDependency"
+kind_text kinds.DependencyCycle = codes "DependencyCycle"
+kind_text kinds.StemTwice = codes "StemTwice"
+
+-- a name stands behind a blank, where there is one
+abbrev pub name_behind : List ℕ → List ℕ
+name_behind [] = []
+name_behind (byte ∷ name) = codes " " ++ byte ∷ name
+
+abbrev pub refused_message : FaultKind → List ℕ → List ℕ
+refused_message kind name = codes "workspace refused: " ++ (kind_text kind ++ name_behind name)
+
 -- ---- what a request is owed, judged as it is taken and once its files were handed out
 
+-- What a compile is of: targets of the workspace in force, by their places in its file, and the `originId`
+-- that was sent with it.
+pub record Build : Type 0 where
+  pub space : Space
+  pub asked : List ℕ
+  pub origin : Option (List ℕ)
+
 pub data Verdict : Type 0 where
-  -- an initialize that wants the workspace file
-  asking : Verdict
-  -- an initialize that opens the session
-  opening : Verdict
-  -- a shutdown that closes it
+  -- an initialize with this root, that wants the workspace file
+  asking : List ℕ → Verdict
+  -- the same, once this was handed out for the file
+  opening : List ℕ → Held → Verdict
+  -- a compile that wants its documents
+  building : Build → Verdict
+  -- the same, once they were handed out
+  built : Build → Entries → Verdict
+  -- a shutdown that closes the session
   closing : Verdict
   -- a refusal with this code and message
   refusal : ℤ → List ℕ → Verdict
@@ -68,23 +115,75 @@ workspace_path = codes "oberon-build.json"
 abbrev pub invalid : Verdict
 invalid = refusal invalid_request (codes "invalid request")
 
--- the paths that a request wants
-abbrev pub paths_wanted : Verdict → Option (List (List ℕ))
-paths_wanted asking = Some (workspace_path ∷ [])
-paths_wanted opening = None
-paths_wanted closing = None
-paths_wanted (refusal code text) = None
-
 -- the request can't be served, since the tree failed
 abbrev pub unreadable : Verdict
 unreadable = refusal sources_unreadable (codes "sources unreadable")
 
--- Before an initialize was answered with a result nothing else is served, and behind it no other one. Behind
--- an answered shutdown nothing is served. Else the method has to be known.
-unfoldable pub verdict : List ℕ → Bool → Bool → Verdict
-verdict method opened closed =
-    if is_named (codes "build/initialize") method then (if opened then invalid else asking)
-    else (if not opened then refusal not_initialized (codes "server not initialized")
-    else (if closed then invalid
+-- the params are bad at this path
+abbrev pub bad_at : List ℕ → Verdict
+bad_at path = refusal invalid_params (codes "invalid params: " ++ path)
+
+-- ---- initialize
+
+-- an initialize whose params have their shape needs a root
+abbrev pub asked_with : Option (List ℕ) → Option (List ℕ) → Verdict
+asked_with (Some path) root = bad_at path
+asked_with None None = bad_at (codes "rootUri")
+asked_with None (Some root) = asking root
+
+abbrev pub initialize_verdict : Option Data → Verdict
+initialize_verdict None = bad_at (codes "params")
+initialize_verdict (Some d) = asked_with (bad_params initialize_params d) (root_at (initialize_params_in d).root_uri)
+
+-- ---- compile
+
+-- the path of the target that stands at this place in a list
+unfoldable pub target_path : ℕ → List ℕ
+target_path place = codes "targets[" ++ (decimal place ++ codes "].uri")
+
+-- the targets that a list names, or the place of the first address that names none
+pub data Found : Type 0 where
+  all_found : List ℕ → Found
+  unknown_at : ℕ → Found
+
+abbrev pub found_first : Option ℕ → ℕ → Found → Found
+found_first None place others = unknown_at place
+found_first (Some target) place (all_found targets) = all_found (target ∷ targets)
+found_first (Some target) place (unknown_at later) = unknown_at later
+
+abbrev pub found_from : Space → ℕ → List BuildTargetIdentifier → Found
+found_from space place [] = all_found []
+found_from space place (id ∷ ids) = found_first (named space id.uri) place (found_from space (place + 1) ids)
+
+abbrev pub compiled : Space → Option (List ℕ) → Found → Verdict
+compiled space origin (all_found targets) = building (record { space = space; asked = targets; origin = origin })
+compiled space origin (unknown_at place) = bad_at (target_path place)
+
+abbrev pub compiled_with : Space → Option (List ℕ) → Data → Verdict
+compiled_with space (Some path) d = bad_at path
+compiled_with space None d = compiled space (compile_params_in d).origin_id (found_from space 0 (compile_params_in d).targets)
+
+abbrev pub compile_verdict : Space → Option Data → Verdict
+compile_verdict space None = bad_at (codes "params")
+compile_verdict space (Some d) = compiled_with space (bad_params build_params d) d
+
+-- ---- any request
+
+-- behind an answered shutdown nothing is served, and else the method has to be known
+abbrev pub served_verdict : List ℕ → Option Data → Space → Bool → Verdict
+served_verdict method params space closed =
+    if closed then invalid
     else (if is_named (codes "build/shutdown") method then closing
-    else refusal method_not_found (codes "method not found"))))
+    else (if is_named (codes "buildTarget/compile") method then compile_verdict space params
+    else refusal method_not_found (codes "method not found")))
+
+abbrev pub verdict_in : Option Space → List ℕ → Option Data → Bool → Verdict
+verdict_in None method params closed = refusal not_initialized (codes "server not initialized")
+verdict_in (Some space) method params closed = served_verdict method params space closed
+
+-- Before an initialize was answered with a result no workspace is in force and nothing else is served, and
+-- behind it no other initialize.
+unfoldable pub verdict : List ℕ → Option Data → Option Space → Bool → Verdict
+verdict method params force closed =
+    if is_named (codes "build/initialize") method then (if is_some force then invalid else initialize_verdict params)
+    else verdict_in force method params closed

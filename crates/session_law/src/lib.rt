@@ -2,6 +2,16 @@
 //! The definitions stand in `specs/`; this crate has no calls.
 #![tactic(auto)]
 
+use ob_text::Path;
+use task_stream::Address;
+
+/// A document in a target: its path in the workspace's folder, and where a client shows it.
+#[derive(Debug, Drop)]
+pub struct Place {
+    pub path: Path,
+    pub address: Address,
+}
+
 /// How the input of a session ends.
 #[derive(Clone, Copy, Debug, PartialEq, Eq)]
 pub enum InputEnd {

@@ -7,3 +7,6 @@ use Rattle.session_core.proofs.answers.unread_answer.Goals as goal
 
 pub returns-clause-framed : goal.returns-clause-framed
 returns-clause-framed c = let fits : FitsSigned w64 c.args.code = omega (arith, ints) in framed_unread c.args.code fits
+
+pub returns-in_err-message-clause-framed : goal.returns-in_err-message-clause-framed
+returns-in_err-message-clause-framed c = let fits : FitsSigned w64 c.args.code = omega (arith, ints) in framed_unread c.args.code fits

@@ -1,0 +1,215 @@
+-- What a client shows once publications were written as messages.
+use Rattle.std.proofs.Common.{◌≡◌, ◌≢◌, ◌+◌, ◌<◌, ◌≤◌, ◌++◌, ◌||◌, ◌&&◌, ℕ, List, [], ◌∷◌, length, get_or, take, map, Bool, true, false, Option, Some, None, refl, sym, ap, subst, ◌∙◌, arith, length-append}
+use Rattle.std.specs.Prelude.{codes, if◌then◌else◌}
+use Rattle.std.specs.List.{All, AllPairs, list_any}
+use Rattle.std.specs.Str.{bytes_eq}
+use Rattle.std.proofs.lemmas.List.{map-append, get_or-map, get_or_default, get_or-take, length-map, length-take-le}
+use Rattle.std.proofs.lemmas.List.Elements.{All-nil, All-head, All-tail, All-cons, All-append, All-push}
+use Rattle.std.proofs.lemmas.List.Folds.{list_any-append}
+use Rattle.std.proofs.lemmas.List.Sums.{fold-append}
+use Rattle.std.proofs.lemmas.Slice.Eq.{bytes_eq-Decides}
+use Rattle.std.specs.Option.{IfSome}
+use Rattle.serde_json.specs.Data.{Data, no_members}
+use Rattle.serde_json.specs.Written.{compact_text, members_text, has_float}
+use Rattle.serde_json.proofs.OnLiterals.{serde_json_on_literals}
+use Rattle.bsp_records.specs.Diagnostics.{publish_diagnostics_params_data}
+use Rattle.bsp_records.specs.Shapes.{IsTextWithin}
+use Rattle.bsp_records.specs.Short.{IsWithin, publication_limit}
+use Rattle.bsp_records.specs.Shown.{shown}
+use Rattle.bsp_records.specs.Table as tables
+use Rattle.bsp_records.specs.Table.{Table, is_about, published}
+use Rattle.bsp_records.specs.declared.diagnostics.DiagnosticRecord.{DiagnosticRecord}
+use Rattle.bsp_records.specs.declared.publishing.PublishDiagnosticsParams.{PublishDiagnosticsParams}
+use Rattle.ob_text.specs.Code.{severity_of}
+use Rattle.ob_text.specs.declared.held.Held.{Held}
+use Rattle.ob_text.specs.declared.diagnostic.Diagnostic.{Diagnostic}
+use Rattle.oberon_check.specs.Diagnosed.{Diagnosed}
+use Rattle.rpc_peer.specs.Said.{Said, notification, body_of}
+use Rattle.session_law.specs.Builds.{Finding, IsFound, Publishes, PublishesAll, Shows, handed_at, has_error, is_error_severity, none, one_more, publication_in, publication_said, published_if, shown_by, table_with}
+use Rattle.session_law.specs.Lawful.{IsFramed}
+use Rattle.session_law.specs.Order.{Entries}
+use Rattle.session_law.specs.declared.Place.{Place}
+use Rattle.session_build.specs.Publishing.{IsNotice, IsPublished, IsPublishedOne, finding_of}
+use Rattle.session_build.proofs.RoundTrip.{publication_back}
+use Rattle.task_stream.specs.Pieces.{pieces}
+use Rattle.task_stream.specs.Showing.{is_at}
+use Rattle.task_stream.specs.declared.shown.Address.{Address}
+
+-- ---- one message after another
+
+said_shows : (p : PublishDiagnosticsParams) (table : Table) → shown_by (publication_said p) table ≡ published p table
+said_shows p table = ap (λ q. published q table) (publication_back p)
+
+-- messages of publications show what the publications do
+pub all_shown : (ps : List PublishDiagnosticsParams) (table : Table) → table_with (map publication_said ps) table ≡ tables.table_with ps table
+all_shown [] table = refl
+all_shown (p ∷ ps) table = ap (table_with (map publication_said ps)) (said_shows p table) ∙ all_shown ps (published p table)
+
+-- ---- tables that show the same
+
+abbrev pub Same : Table → Table → Type 0
+Same a b = (document target : List ℕ) → a document target ≡ b document target
+
+if_same : (o : Option PublishDiagnosticsParams) (a b : Table) → Same a b → Same (published_if o a) (published_if o b)
+if_same None a b same document target = same document target
+if_same (Some p) a b same document target =
+    ap (λ (list : List DiagnosticRecord). if is_about p document target then (if p.reset then p.diagnostics else list ++ p.diagnostics) else list) (same document target)
+
+pub table_same : (messages : List Said) (a b : Table) → Same a b → Same (table_with messages a) (table_with messages b)
+table_same [] a b same = same
+table_same (m ∷ messages) a b same = table_same messages (shown_by m a) (shown_by m b) (if_same (publication_in m) a b same)
+
+-- what is published is the same where the tables show the same
+publishes_same : (a b : Table) (origin : Option (List ℕ)) (finding : Finding) (messages : List Said) → Same a b → Publishes a origin finding messages → Publishes b origin finding messages
+publishes_same a b origin finding messages same publishes = record {
+  same = λ shows. publishes.same (same finding.place.address.document finding.place.address.target ∙ shows);
+  other = λ differs. publishes.other (λ shows. differs (sym (same finding.place.address.document finding.place.address.target) ∙ shows));
+}
+
+-- ---- a further document
+
+abbrev IsApart : Place → Place → Type 0
+IsApart place earlier = is_at place.address earlier.address.document earlier.address.target ≡ false
+
+-- what was shown of the earlier documents still is
+shows_on : (mid new : Table) (place : Place) (findings : List Finding) → ((document target : List ℕ) → is_at place.address document target ≡ false → new document target ≡ mid document target)
+    → All (λ (f : Finding). IsApart place f.place) findings → All (Shows mid) findings → All (Shows new) findings
+shows_on mid new place findings elsewhere apart shows k d h =
+    elsewhere _ _ (apart k d h) ∙ shows k d h
+
+places_all : (P : Place → Type 0) (findings : List Finding) (places : List Place) → map (λ (f : Finding). f.place) findings ≡ places → All P places → All (λ (f : Finding). P f.place) findings
+places_all P [] places is all = All-nil (λ (f : Finding). P f.place)
+places_all P (f ∷ findings) places is all =
+    let all' : All P (f.place ∷ map (λ (f : Finding). f.place) findings) = subst (All P) (sym is) all in
+    All-cons (λ (f : Finding). P f.place) f findings (All-head P f.place (map (λ (f : Finding). f.place) findings) all')
+    (places_all P findings (map (λ (f : Finding). f.place) findings) refl (All-tail P f.place (map (λ (f : Finding). f.place) findings) all'))
+
+pub none_published : (table : Table) (origin : Option (List ℕ)) (entries : Entries) → IsPublished table table [] origin entries [] false
+none_published table origin entries = record {
+  findings = [];
+  of_places = refl;
+  found = All-nil (IsFound entries);
+  publishes = none;
+  framed = All-nil IsFramed;
+  notices = All-nil IsNotice;
+  kept = λ document target. refl;
+  shows = All-nil (Shows table);
+  failed_is = refl;
+}
+
+pub one_published : (old mid new : Table) (places : List Place) (place : Place) (origin : Option (List ℕ)) (entries : Entries) (held : Held) (before after : List Said) (failed one_failed : Bool)
+    → held ≡ handed_at entries place.path → All (IsApart place) places
+    → IsPublished old mid places origin entries before failed → IsPublishedOne mid new place origin held before after one_failed
+    → IsPublished old new (places ++ place ∷ []) origin entries after (failed || one_failed)
+one_published old mid new places place origin entries held before after failed one_failed is apart all one =
+    let finding : Finding = finding_of place one.list in
+    record {
+      findings = all.findings ++ finding ∷ [];
+      of_places = map-append (λ (f : Finding). f.place) all.findings (finding ∷ []) ∙ ap (λ (ps : List Place). ps ++ place ∷ []) all.of_places;
+      found = All-push (IsFound entries) all.findings finding all.found (subst (λ (h : Held). Diagnosed h one.list) is one.found);
+      publishes =
+          subst (PublishesAll old origin (all.findings ++ finding ∷ [])) (sym one.messages)
+          (one_more finding one.own all.publishes (publishes_same mid (table_with before old) origin finding one.own all.kept one.publishes));
+      framed = subst (All IsFramed) (sym one.messages) (All-append IsFramed before one.own all.framed one.framed);
+      notices = subst (All IsNotice) (sym one.messages) (All-append IsNotice before one.own all.notices one.notices);
+      kept = λ document target.
+          one.kept document target
+          ∙ (table_same one.own mid (table_with before old) all.kept document target
+          ∙ ap (λ (t : Table). t document target) (sym (ap (λ ms. table_with ms old) one.messages ∙ fold-append (λ shows m. shown_by m shows) old before one.own)));
+      shows =
+          All-push (Shows new) all.findings finding
+          (shows_on mid new place all.findings one.elsewhere (places_all (IsApart place) all.findings places all.of_places apart) all.shows) one.shows;
+      failed_is =
+          ap (λ b. b || one_failed) all.failed_is
+          ∙ (ap (λ b. list_any has_error all.findings || b) (one.failed_is ∙ sym (or_last (has_error finding)))
+          ∙ sym (list_any-append has_error all.findings (finding ∷ [])));
+    }
+  where
+    or_last : (b : Bool) → (b || false) ≡ b
+    or_last true = refl
+    or_last false = refl
+
+-- ---- which addresses are apart
+
+address_same : (a b : Address) → a.document ≡ b.document → a.target ≡ b.target → a ≡ b
+address_same a b document target = rw (document, target) refl
+
+apart_at : (a b : Address) → (a ≡ b → ⊥) → is_at a b.document b.target ≡ false
+apart_at a b differs = by_tests (bytes_eq a.document b.document) (bytes_eq a.target b.target) refl refl
+  where
+    by_tests : (d t : Bool) → bytes_eq a.document b.document ≡ d → bytes_eq a.target b.target ≡ t → is_at a b.document b.target ≡ false
+    by_tests true true h k = absurd (differs (address_same a b ((bytes_eq-Decides a.document b.document).0 h) ((bytes_eq-Decides a.target b.target).0 k)))
+    by_tests true false h k = ap (λ x. x && bytes_eq a.target b.target) h ∙ k
+    by_tests false t h k = ap (λ x. x && bytes_eq a.target b.target) h
+
+at_itself : (a : Address) → is_at a a.document a.target ≡ true
+at_itself a = ap (λ x. x && bytes_eq a.target a.target) ((bytes_eq-Decides a.document a.document).1 refl) ∙ (bytes_eq-Decides a.target a.target).1 refl
+
+-- a document is apart from each before it
+pub apart_before : (places : List Place) (i : ℕ) (place : Place) → i < length places → place ≡ get_or places i place → AllPairs ◌≢◌ (map (λ (p : Place). p.address) places)
+    → All (IsApart place) (take i places)
+apart_before places i place h e distinct k d k_in =
+    let size : length (map (λ (p : Place). p.address) places) ≡ length places = length-map places (λ (p : Place). p.address) in
+    let front : length (take i places) ≡ i = length-take-le i places (omega arith) in
+    let below : k < i = omega (arith, front) in
+    let earlier : Place = get_or (take i places) k d in
+    let is : earlier ≡ get_or places k place = get_or-take i places k d below ∙ get_or_default places k d place (omega arith) in
+    let this : get_or (map (λ (p : Place). p.address) places) i place.address ≡ place.address =
+    get_or-map (λ (p : Place). p.address) places i place place.address h ∙ ap (λ (p : Place). p.address) (sym e) in
+    let that : get_or (map (λ (p : Place). p.address) places) k place.address ≡ earlier.address =
+    get_or-map (λ (p : Place). p.address) places k place place.address (omega arith) ∙ ap (λ (p : Place). p.address) (sym is) in
+    apart_at place.address earlier.address (λ same. distinct k i place.address below (omega (arith, size)) (that ∙ (sym same ∙ sym this)))
+
+-- ---- one document
+
+notices_of : (ps : List PublishDiagnosticsParams) → All IsNotice (map publication_said ps)
+notices_of [] = All-nil IsNotice
+notices_of (p ∷ ps) = All-cons IsNotice (publication_said p) (map publication_said ps) tt (notices_of ps)
+
+pub one_shown : (old new : Table) (place : Place) (origin : Option (List ℕ)) (held : Held) (before after : List Said) (list : List Diagnostic) (ps : List PublishDiagnosticsParams) (failed : Bool)
+    → Diagnosed held list
+    → (old place.address.document place.address.target ≡ map shown list → ps ≡ [])
+    → (old place.address.document place.address.target ≢ map shown list → ps ≡ pieces place.address origin (map shown list))
+    → ((document target : List ℕ) → tables.table_with ps old document target ≡ (if is_at place.address document target then map shown list else old document target))
+    → ((document target : List ℕ) → new document target ≡ (if is_at place.address document target then map shown list else old document target))
+    → after ≡ before ++ map publication_said ps → All IsFramed (map publication_said ps)
+    → failed ≡ list_any (λ (d : Diagnostic). is_error_severity (severity_of d.code)) list → IsPublishedOne old new place origin held before after failed
+one_shown old new place origin held before after list ps failed found same other client table messages framed failed_is =
+    record {
+      list = list;
+      own = map publication_said ps;
+      found = found;
+      publishes = record {
+        same = λ shows. ap (map publication_said) (same shows);
+        other = λ differs. ap (map publication_said) (other differs);
+      };
+      messages = messages;
+      framed = framed;
+      notices = notices_of ps;
+      kept = λ document target.
+          table document target ∙ (sym (client document target) ∙ ap (λ (t : Table). t document target) (sym (all_shown ps old)));
+      shows = table place.address.document place.address.target
+          ∙ ap (λ b. if b then map shown list else old place.address.document place.address.target) (at_itself place.address);
+      elsewhere = λ document target apart. table document target ∙ ap (λ b. if b then map shown list else old document target) apart;
+      failed_is = failed_is;
+    }
+
+-- ---- one publication fits a frame
+
+pub origin_within : (origin : Option (List ℕ)) (limit : ℕ) → IfSome origin (IsTextWithin limit) → IfSome origin (IsWithin limit)
+origin_within None limit h = tt
+origin_within (Some text) limit h = h.within
+
+notice_short : (params : Data) → length (body_of (notification (codes "build/publishDiagnostics") (Some params))) ≤ 100 + length (compact_text params)
+unfolding body_of serde_json_on_literals
+notice_short params = let l = length-append (compact_text params) (members_text true no_members) in omega (arith, l)
+
+pub framed_publication : (p : PublishDiagnosticsParams) → has_float (publish_diagnostics_params_data p) ≡ false
+    → length (compact_text (publish_diagnostics_params_data p)) ≤ publication_limit → IsFramed (publication_said p)
+unfolding lib.Utf8.encode
+framed_publication p exact short = record {
+  of_server = refl;
+  texts = (codes "build/publishDiagnostics", (refl, refl));
+  exact = rw exact refl;
+  fits = (let whole = notice_short (publish_diagnostics_params_data p) in omega (arith, whole, short));
+}

@@ -1,0 +1,92 @@
+ghost use Rattle.std.specs.Prelude.{◌≡◌, ◌≢◌, ◌==◌, ◌<◌, ℕ, List, Option, length, map, nat_eq, not, Some, IfOk};
+ghost use Rattle.std.specs.List.{All, AllPairs, list_any, slice_get};
+ghost use Rattle.std.specs.Str.{bytes_eq};
+ghost use Rattle.indexmap.specs.IndexSet.{contains};
+ghost use Rattle.session_law.specs.Builds.{ArePlaces, each_once, place_of, with_path};
+ghost use Rattle.session_build.specs.Placed.{IsPlain, build_of};
+ghost use Rattle.target_graph.specs.Workspace.{pairs_of};
+ghost use Rattle.target_graph.specs.declared.target.Pair.{Pair};
+
+use indexmap::IndexSet;
+use ob_text::{Items, NoMemory, Path};
+use session_law::Place;
+use std::alloc::Global;
+use target_graph::Workspace;
+use task_stream::Address;
+
+/// The documents of some targets and of all that they depend on, in the order of the workspace file.
+pub fn places_of(
+    alloc: Global,
+    workspace: &Workspace,
+    asked: &[u32],
+) -> Result<Items<Place>, NoMemory>
+    requires { All (λ target. target < length workspace.now.targets) asked.now }
+    ensures places { IfOk result (λ places. (origin : Option (List ℕ))
+        → ArePlaces (build_of workspace.now asked.now origin) places) }
+    ensures plain { IfOk result (All IsPlain) }
+    // No two stand at one address.
+    ensures distinct { IfOk result (λ places. AllPairs ◌≢◌ (map (λ place. place.address) places)) }
+{
+    let targets = workspace.closure(asked)?;
+    let closure = set_of(alloc, targets.as_slice())?;
+    let mut places = Vec::new(alloc);
+    for pair in 0..workspace.pairs().len() {
+        let target = workspace.pairs()[pair].target;
+        if closure.contains(&target) {
+            places.push(place_at(alloc, workspace, pair as u32)?)?;
+        }
+    }
+    Ok(Items::from_vec(places))
+}
+
+/// The numbers as a set.
+fn set_of(alloc: Global, numbers: &[u32]) -> Result<IndexSet<u32>, NoMemory>
+    ensures { IfOk result (λ set. (n : ℕ) → contains nat_eq set n
+        ≡ list_any (λ number. number == n) numbers.now) }
+{
+    let mut set = IndexSet::new(alloc);
+    for number in numbers {
+        set.insert(*number)?;
+    }
+    Ok(set)
+}
+
+/// A pair's document in its target.
+fn place_at(alloc: Global, workspace: &Workspace, pair: u32) -> Result<Place, NoMemory>
+    requires { pair < length (pairs_of workspace.now.targets) }
+    ensures place { IfOk result (λ place. (at : Pair) → slice_get (pairs_of
+        workspace.now.targets) pair ≡ Some at → place ≡ place_of workspace.now at) }
+    ensures plain { IfOk result IsPlain }
+{
+    let at = &workspace.pairs()[pair as usize];
+    let path = at.path.copy(alloc)?;
+    let document = workspace.document_of(pair)?;
+    let target = workspace.target_id(at.target)?;
+    Ok(Place {
+        path,
+        address: Address { document, target },
+    })
+}
+
+/// The paths of some documents, each once, at its first place.
+pub fn paths_of(alloc: Global, places: &[Place]) -> Result<Items<Path>, NoMemory>
+    ensures { IfOk result (λ paths. paths ≡ each_once (map (λ place. place.path) places.now)) }
+{
+    let mut seen = IndexSet::new(alloc);
+    let mut paths = Vec::new(alloc);
+    for place in places {
+        if see(alloc, &mut seen, &place.path)? {
+            paths.push(place.path.copy(alloc)?)?;
+        }
+    }
+    Ok(Items::from_vec(paths))
+}
+
+/// Puts a path behind the others, and tells whether it is new.
+fn see(alloc: Global, seen: &mut IndexSet<Path>, path: &Path) -> Result<bool, NoMemory>
+    ensures new { IfOk result (λ new. new ≡ not (list_any (bytes_eq path.now) seen.old.keys)) }
+    ensures keys { IfOk result (λ new. seen.new.keys ≡ with_path seen.old.keys path.now) }
+{
+    let (_, new) = seen.insert_full(path.copy(alloc)?)?;
+    Ok(new)
+}

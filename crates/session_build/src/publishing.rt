@@ -1,0 +1,136 @@
+ghost use Rattle.std.specs.Prelude.{◌≡◌, ◌≢◌, ◌++◌, ◌||◌, ℕ, map, IfOk, IfSome, OnOk};
+ghost use Rattle.std.specs.List.{All, AllPairs, list_any};
+ghost use Rattle.bsp_edge.specs.Documents.{IsReadable};
+ghost use Rattle.bsp_records.specs.Diagnostics.{HasPublishTexts, publish_diagnostics_params_data};
+ghost use Rattle.bsp_records.specs.Shapes.{IsTextWithin};
+ghost use Rattle.bsp_records.specs.Short.{IsShortPublication};
+ghost use Rattle.bsp_records.specs.declared.kinds.TheConstants.{ORIGIN_LIMIT};
+ghost use Rattle.bsp_records.specs.Shown.{HasPlainName};
+ghost use Rattle.ob_text.specs.Code.{severity_of};
+ghost use Rattle.oberon_check.specs.Diagnosed.{Diagnosed};
+ghost use Rattle.rpc_peer.specs.Said.{said};
+ghost use Rattle.session_law.specs.Builds.{is_error_severity, publication_said};
+ghost use Rattle.session_law.specs.Lawful.{IsFramed};
+ghost use Rattle.session_build.specs.Handed.{held_or_absent};
+ghost use Rattle.session_build.specs.Placed.{IsPlain};
+ghost use Rattle.session_build.specs.Publishing.{IsPublished, IsPublishedOne};
+ghost use Rattle.task_stream.specs.Showing.{shows};
+
+use crate::handed::{held_in, index_of};
+use bsp_records::{PublishDiagnosticsParams, write_publish_diagnostics_params};
+use ob_text::{Diagnostic, Held, NoMemory, Severity, Snapshot, Text};
+use oberon_check::diagnose;
+use rpc_peer::Message;
+use session_law::Place;
+use std::alloc::Global;
+use std::collections::VecDeque;
+use task_stream::Shown;
+
+/// What is written of a build, and whether the clean build has an error.
+#[derive(Drop)]
+pub struct Published {
+    pub messages: VecDeque<Message>,
+    pub failed: bool,
+}
+
+/// Publishes the diagnostics of each document, by what was handed out, that a client doesn't show.
+pub fn publish_all(
+    alloc: Global,
+    shown: &mut Shown,
+    places: &[Place],
+    origin: &Option<Text>,
+    snapshot: &Snapshot,
+) -> Result<Published, NoMemory>
+    requires plain { All IsPlain places.now }
+    requires distinct { AllPairs ◌≢◌ (map (λ place. place.address) places.now) }
+    requires origin { IfSome origin.now (IsTextWithin ORIGIN_LIMIT) }
+    requires texts { All (λ entry. IsReadable entry.1) snapshot.now.entries }
+    ensures published { IfOk result (λ p. IsPublished (shows shown.old) (shows shown.new) places.now
+        origin.now snapshot.now.entries (map said p.messages.items) p.failed) }
+{
+    let entries = snapshot.entries.as_slice();
+    let index = index_of(alloc, entries)?;
+    let mut messages = VecDeque::new(alloc);
+    let mut failed = false;
+    for place in places {
+        let held = held_in(entries, &index, &place.path);
+        let has_error = publish_one(alloc, shown, place, origin, held, &mut messages)?;
+        failed = failed || has_error;
+    }
+    Ok(Published { messages, failed })
+}
+
+/// Publishes the diagnostics of one document, by what was handed out for it, and tells whether one is an error.
+fn publish_one(
+    alloc: Global,
+    shown: &mut Shown,
+    place: &Place,
+    origin: &Option<Text>,
+    held: Option<&Held>,
+    messages: &mut VecDeque<Message>,
+) -> Result<bool, NoMemory>
+    requires plain { IsPlain place.now }
+    requires origin { IfSome origin.now (IsTextWithin ORIGIN_LIMIT) }
+    requires readable { IfSome held (λ held. IsReadable held.now) }
+    ensures { IfOk result (IsPublishedOne (shows shown.old) (shows shown.new) place.now origin.now
+        (held_or_absent held.entry) (map said messages.old.items) (map said messages.new.items)) }
+{
+    let list = diagnose_held(alloc, held)?;
+    let publications = shown.publish(&place.address, origin, list.as_slice())?;
+    say_all(alloc, publications.as_slice(), messages)?;
+    Ok(has_error(list.as_slice()))
+}
+
+/// The diagnostics of a document. Where nothing was handed out for it, it is absent.
+fn diagnose_held(alloc: Global, held: Option<&Held>) -> Result<Vec<Diagnostic>, NoMemory>
+    requires { IfSome held (λ held. IsReadable held.now) }
+    ensures found { IfOk result (λ list. Diagnosed (held_or_absent held.entry) list.items) }
+    ensures names { IfOk result (λ list. All HasPlainName list.items) }
+{
+    match held {
+        Some(held) => diagnose(alloc, held),
+        None => diagnose(alloc, &Held::Absent),
+    }
+}
+
+fn has_error(list: &[Diagnostic]) -> bool
+    ensures { result ≡ list_any (λ diagnostic. is_error_severity (severity_of diagnostic.code))
+        list.now }
+{
+    list.iter()
+        .any(|diagnostic| diagnostic.code.severity() == Severity::Error)
+}
+
+/// Puts the messages of some publications behind the others.
+fn say_all(
+    alloc: Global,
+    publications: &[PublishDiagnosticsParams],
+    messages: &mut VecDeque<Message>,
+) -> Result<(), NoMemory>
+    requires texts { All HasPublishTexts publications.now }
+    requires short { All IsShortPublication publications.now }
+    ensures said { OnOk result (map said messages.new.items
+        ≡ map said messages.old.items ++ map publication_said publications.now) }
+    ensures framed { OnOk result (All IsFramed (map publication_said publications.now)) }
+{
+    for publication in publications {
+        messages.push_back(say(alloc, publication)?)?;
+    }
+    Ok(())
+}
+
+/// A publication as a message.
+#[tactic(auto, using(crate::proofs::Publications::framed_publication))]
+fn say(alloc: Global, publication: &PublishDiagnosticsParams) -> Result<Message, NoMemory>
+    requires texts { HasPublishTexts publication.now }
+    requires short { IsShortPublication publication.now }
+    ensures said { IfOk result (λ message. said message ≡ publication_said publication.now) }
+    ensures framed { OnOk result (IsFramed (publication_said publication.now)) }
+{
+    let params = write_publish_diagnostics_params(alloc, publication)?;
+    let method = Text::new(alloc, b"build/publishDiagnostics")?;
+    Ok(Message::Notification {
+        method,
+        params: Some(params),
+    })
+}

@@ -1,0 +1,64 @@
+-- The targets that a compile names, and the path of one that is none.
+use Rattle.std.proofs.Common.{◌≡◌, ◌++◌, ◌<◌, ◌≤◌, ◌+◌, ◌^◌, ℕ, List, [], ◌∷◌, length, drop, get_or, Some, None, refl, ap, sym, ◌∙◌, arith, append_assoc, append-nil, length-append}
+use Rattle.std.specs.Prelude.{codes, decimal}
+use Rattle.std.specs.List.{All}
+use Rattle.std.proofs.lemmas.Fmt.{IsAscii-decimal, length-decimal-le}
+use Rattle.std.proofs.lemmas.List.{drop_more}
+use Rattle.std.proofs.lemmas.Str.{IsAscii-append}
+use Rattle.bsp_records.specs.declared.identifiers.BuildTargetIdentifier.{BuildTargetIdentifier}
+use Rattle.session_core.specs.Judging.{IsShort}
+use Rattle.session_core.proofs.Literals.{literal_ascii}
+use Rattle.session_law.specs.Methods.{Found, all_found, unknown_at, found_first, found_from, target_path}
+use Rattle.target_graph.specs.Workspace.{Space, named}
+
+-- what is found behind these targets
+abbrev pub after : List ℕ → Found → Found
+after asked (all_found targets) = all_found (asked ++ targets)
+after asked (unknown_at place) = unknown_at place
+
+after_nothing : (found : Found) → found ≡ after [] found
+after_nothing (all_found targets) = refl
+after_nothing (unknown_at place) = refl
+
+after_one : (asked : List ℕ) (target place : ℕ) (found : Found) → after asked (found_first (Some target) place found) ≡ after (asked ++ target ∷ []) found
+after_one asked target place (all_found targets) = ap all_found (sym (append_assoc asked (target ∷ []) targets))
+after_one asked target place (unknown_at later) = refl
+
+-- the first targets are found
+pub record FindsTo (space : Space) (ids : List BuildTargetIdentifier) (place : ℕ) (asked : List ℕ) : Type 0 where
+  pub found : found_from space 0 ids ≡ after asked (found_from space place (drop place ids))
+  pub within : All (λ target. target < length space.targets) asked
+
+module _ (space : Space) (ids : List BuildTargetIdentifier) where
+  pub finds_none : found_from space 0 ids ≡ after [] (found_from space 0 (drop 0 ids))
+  finds_none = after_nothing (found_from space 0 ids)
+
+  next : (place : ℕ) (d : BuildTargetIdentifier) → place < length ids
+      → found_from space place (drop place ids) ≡ found_first (named space (get_or ids place d).uri) place (found_from space (place + 1) (drop (place + 1) ids))
+  next place d h = ap (found_from space place) (drop_more ids place d h)
+
+  pub finds_more : (place : ℕ) (asked : List ℕ) (d : BuildTargetIdentifier) (target : ℕ) → place < length ids → named space (get_or ids place d).uri ≡ Some target
+      → found_from space 0 ids ≡ after asked (found_from space place (drop place ids)) → found_from space 0 ids ≡ after (asked ++ target ∷ []) (found_from space (place + 1) (drop (place + 1) ids))
+  finds_more place asked d target h is found =
+      found ∙ ap (after asked) (next place d h ∙ ap (λ o. found_first o place (found_from space (place + 1) (drop (place + 1) ids))) is)
+      ∙ after_one asked target place (found_from space (place + 1) (drop (place + 1) ids))
+
+  pub finds_unknown : (place : ℕ) (asked : List ℕ) (d : BuildTargetIdentifier) → place < length ids → named space (get_or ids place d).uri ≡ None
+      → found_from space 0 ids ≡ after asked (found_from space place (drop place ids)) → found_from space 0 ids ≡ unknown_at place
+  finds_unknown place asked d h is found =
+      found ∙ ap (after asked) (next place d h ∙ ap (λ o. found_first o place (found_from space (place + 1) (drop (place + 1) ids))) is)
+
+  pub finds_all : (place : ℕ) (asked : List ℕ) → drop place ids ≡ [] → found_from space 0 ids ≡ after asked (found_from space place (drop place ids)) → found_from space 0 ids ≡ all_found asked
+  finds_all place asked nothing found = found ∙ ap (λ rest. after asked (found_from space place rest)) nothing ∙ ap all_found (append-nil asked)
+
+pub short_path : (place : ℕ) → place < 2 ^ 64 → IsShort (target_path place)
+unfolding target_path
+short_path place h =
+    let digits : length (decimal place) ≤ 20 = length-decimal-le 20 place (omega arith) (omega arith) h in
+    let front = length-append (codes "targets[") (decimal place ++ codes "].uri") in
+    let back = length-append (decimal place) (codes "].uri") in
+    record {
+      plain = IsAscii-append (codes "targets[") (decimal place ++ codes "].uri") (literal_ascii (codes "targets[") refl)
+          (IsAscii-append (decimal place) (codes "].uri") (IsAscii-decimal place h) (literal_ascii (codes "].uri") refl));
+      short = omega (arith, digits, front, back);
+    }

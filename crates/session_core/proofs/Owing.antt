@@ -1,0 +1,268 @@
+-- What the core does in one step, in the words of the law.
+use Rattle.std.proofs.Common.{◌≡◌, ◌==◌, ◌||◌, ℕ, ℤ, List, [], ◌∷◌, Bool, true, false, Option, Some, None, refl, ap, sym, ◌∙◌, subst}
+use Rattle.std.proofs.lemmas.Bool.{eq-eqb}
+use Rattle.std.proofs.lemmas.Bool.Decides.{Decides-int_eq}
+use Rattle.std.specs.Cmp.Lexicographic.{pointwise}
+use Rattle.ob_text.specs.declared.held.Held.{Held}
+use Rattle.serde_json.specs.Data.{null}
+use Rattle.rpc_peer.specs.declared.message.Id.{Id}
+use Rattle.rpc_peer.specs.declared.message.Id.TheVariants.{Number, Text}
+use Rattle.rpc_peer.specs.OpenIds.{same_id}
+use Rattle.rpc_peer.specs.Said.{result, failure, IsId}
+use Rattle.session_law.specs.Lawful.{Lawful, IsFramed, IsRefused}
+use Rattle.session_law.specs.Methods.{Verdict, asking, opening, building, built, closing, refusal, initialize_result}
+use Rattle.session_law.specs.Order.{Event, write}
+use Rattle.session_law.specs.Past.{Asked, WantedBy, active_as, space_in, open_after, force_after, closed_after, nulls_after, status_after, table_after}
+use Rattle.session_core.specs.Acting.{answer_unread, answered, paths_in}
+use Rattle.session_core.specs.Judging.{answer_to, code_of, message_of, Fits, IsPlanOf}
+use Rattle.session_core.specs.Plans.{Plan, build_in}
+use Rattle.session_core.specs.State.{Base, State, building_in, owed, workspace_need}
+use Rattle.session_core.specs.Standing.{Keeps, EachId, AreIn}
+use Rattle.session_core.specs.declared.awaiting.Awaiting.TheVariants as awaits
+use Rattle.session_core.specs.declared.awaiting.Need.TheVariants as needs
+use Rattle.session_core.specs.declared.verdicts.Answer.{Answer}
+use Rattle.session_core.specs.declared.verdicts.Answer.TheVariants as answers
+use Rattle.target_graph.specs.Faults.{Accepted, targets_in}
+use Rattle.target_graph.specs.Workspace.{Space}
+
+same_text : (t : List ℕ) → pointwise ◌==◌ t t ≡ true
+same_text [] = refl
+same_text (b ∷ t) = rw (eq-eqb b b refl) (same_text t)
+
+pub same_id_refl : (id : Id) → same_id id id ≡ true
+same_id_refl (Number n) = (Decides-int_eq n n).1 refl
+same_id_refl (Text t) = same_text t
+
+-- what is known of an order that owes these answers, behind a take, a hand or the end of the input
+pub record Owes (base : Base) (status : Option ℕ) (requests : List Asked) (nulls : List ℤ) (past : List Event) : Type 0 where
+  pub lawful : Lawful past
+  pub force_is : force_after past ≡ base.force
+  pub closed_is : closed_after past ≡ base.closed
+  pub table_is : table_after past ≡ base.table
+  pub status_is : status_after past ≡ status
+  pub requests_are : open_after past ≡ requests
+  pub nulls_are : nulls_after past ≡ nulls
+
+same_or : (b : Bool) → (b || false) ≡ b
+same_or true = refl
+same_or false = refl
+
+-- nothing waits, and nothing is needed
+abbrev pub idle : Base → Option ℕ → State
+idle base status = record { base = base; status = status; awaiting = None; need = None }
+
+-- ---- a request is given what it is owed
+
+-- the workspace that was accepted is the one that the file describes
+space_is : (root : List ℕ) (file : Held) (space : Space) → Accepted file root space → Some (space_in root file) ≡ Some space
+space_is root file space accepted =
+    ap (λ r. Some (record { root = r; targets = targets_in file })) (sym accepted.at_root) ∙ ap (λ ts. Some (record { root = space.root; targets = ts })) (sym accepted.all_targets)
+
+-- an initialize opens the session
+gives_opening : (id : Id) (root : List ℕ) (file : Held) (space : Space) (base : Base) (status : Option ℕ) (past : List Event) → Accepted file root space
+    → Owes base status (owed id (opening root file)) [] past → IsFramed (result (Some id) initialize_result)
+    → Keeps false (idle (record base { force = Some space }) status) (write (result (Some id) initialize_result) ∷ past)
+gives_opening id root file space base status past accepted o framed =
+    let same = same_id_refl id in
+    record {
+      lawful = record {
+        each = (
+          record {
+            framed = framed;
+            once = rw (o.requests_are, same);
+            exact = rw (o.requests_are, same) (record { space = space; accepted = accepted }, refl);
+            in_order = rw (o.requests_are) tt;
+            shows = rw (o.requests_are) tt;
+          },
+          o.lawful.each,
+        );
+      };
+      knows = λ _. record {
+        force_is = rw (o.requests_are, same) (space_is root file space accepted);
+        closed_is = rw (o.closed_is, o.requests_are, same) (same_or base.closed);
+        table_is = o.table_is;
+        status_is = o.status_is;
+        requests_are = rw (o.requests_are, same);
+        nulls_are = o.nulls_are;
+        ids = tt;
+        need_is = tt;
+        plan_is = tt;
+      };
+    }
+
+true_or : (b : Bool) → (b || true) ≡ true
+true_or true = refl
+true_or false = refl
+
+-- a shutdown closes it
+gives_closing : (id : Id) (base : Base) (status : Option ℕ) (past : List Event) → Owes base status (owed id closing) [] past → IsFramed (result (Some id) null)
+    → Keeps false (idle (record base { closed = true }) status) (write (result (Some id) null) ∷ past)
+gives_closing id base status past o framed =
+    let same = same_id_refl id in
+    record {
+      lawful = record {
+        each = (
+          record {
+            framed = framed;
+            once = rw (o.requests_are, same);
+            exact = rw (o.requests_are, same);
+            in_order = rw (o.requests_are) tt;
+            shows = rw (o.requests_are) tt;
+          },
+          o.lawful.each,
+        );
+      };
+      knows = λ _. record {
+        force_is = rw (o.requests_are, same) o.force_is;
+        closed_is = rw (o.requests_are, same) (true_or (closed_after past));
+        table_is = o.table_is;
+        status_is = o.status_is;
+        requests_are = rw (o.requests_are, same);
+        nulls_are = o.nulls_are;
+        ids = tt;
+        need_is = tt;
+        plan_is = tt;
+      };
+    }
+
+-- a request is owed a refusal, and is given it
+gives_refusal : (id : Id) (v : Verdict) (code : ℤ) (text : List ℕ) (base : Base) (status : Option ℕ) (past : List Event) → active_as id v ≡ None → Owes base status (owed id v) [] past
+    → IsRefused (Some v) code text → IsFramed (failure (Some id) code text) → Keeps false (idle base status) (write (failure (Some id) code text) ∷ past)
+gives_refusal id v code text base status past none o refused framed =
+    let same = same_id_refl id in
+    record {
+      lawful = record {
+        each = (
+          record {
+            framed = framed;
+            once = rw (o.requests_are, same);
+            exact = rw (o.requests_are, same) refused;
+            in_order = rw (o.requests_are, none) tt;
+            shows = rw (o.requests_are, none) tt;
+          },
+          o.lawful.each,
+        );
+      };
+      knows = λ _. record {
+        force_is = o.force_is;
+        closed_is = rw (o.closed_is) (same_or base.closed);
+        table_is = o.table_is;
+        status_is = o.status_is;
+        requests_are = rw (o.requests_are, same);
+        nulls_are = o.nulls_are;
+        ids = tt;
+        need_is = tt;
+        plan_is = tt;
+      };
+    }
+
+-- one request is owed an answer, and is given it
+pub gives : (id : Id) (v : Verdict) (answer : Answer) (base : Base) (status : Option ℕ) (past : List Event) → Fits v answer → Owes base status (owed id v) [] past
+    → IsFramed (answer_to id answer) → Keeps false (answered (idle base status) answer) (write (answer_to id answer) ∷ past)
+gives id (asking root) answer base status past fits o framed = absurd fits
+gives id (opening root file) (answers.Opening space) base status past fits o framed = gives_opening id root file space base status past fits o framed
+gives id (opening root file) answers.Closing base status past fits o framed = absurd fits
+gives id (opening root file) (answers.Refused reason) base status past fits o framed =
+    gives_refusal id (opening root file) (code_of reason) (message_of reason) base status past refl o fits framed
+gives id (building build) answer base status past fits o framed = absurd fits
+gives id (built build entries) answer base status past fits o framed = absurd fits
+gives id closing (answers.Opening space) base status past fits o framed = absurd fits
+gives id closing answers.Closing base status past fits o framed = gives_closing id base status past o framed
+gives id closing (answers.Refused reason) base status past fits o framed = absurd fits
+gives id (refusal code text) (answers.Opening space) base status past fits o framed = absurd fits
+gives id (refusal code text) answers.Closing base status past fits o framed = absurd fits
+gives id (refusal code text) (answers.Refused reason) base status past fits o framed =
+    gives_refusal id (refusal code text) (code_of reason) (message_of reason) base status past refl o fits framed
+
+-- one code is owed with the id null, and is given
+pub gives_unread : (code : ℤ) (base : Base) (status : Option ℕ) (past : List Event) → Owes base status [] (code ∷ []) past → IsFramed (answer_unread code)
+    → Keeps false (idle base status) (write (answer_unread code) ∷ past)
+gives_unread code base status past o framed =
+    record {
+      lawful = record {
+        each = (
+          record {
+            framed = framed;
+            once = record { first = code; others = []; are = o.nulls_are };
+            exact = rw (o.nulls_are) (refl, refl);
+            in_order = rw (o.requests_are) tt;
+            shows = rw (o.requests_are) tt;
+          },
+          o.lawful.each,
+        );
+      };
+      knows = λ _. record {
+        force_is = o.force_is;
+        closed_is = rw (o.closed_is) (same_or base.closed);
+        table_is = o.table_is;
+        status_is = o.status_is;
+        requests_are = o.requests_are;
+        nulls_are = rw (o.nulls_are);
+        ids = tt;
+        need_is = tt;
+        plan_is = tt;
+      };
+    }
+
+-- nothing is owed
+pub gives_none : (base : Base) (status : Option ℕ) (past : List Event) → Owes base status [] [] past → Keeps false (idle base status) past
+gives_none base status past o =
+    record {
+      lawful = o.lawful;
+      knows = λ _. record {
+        force_is = o.force_is;
+        closed_is = o.closed_is;
+        table_is = o.table_is;
+        status_is = o.status_is;
+        requests_are = o.requests_are;
+        nulls_are = o.nulls_are;
+        ids = tt;
+        need_is = tt;
+        plan_is = tt;
+      };
+    }
+
+-- ---- a request is kept until the tree answered
+
+-- an initialize, until it has the workspace file
+pub keeps_asking : (id : Id) (root : List ℕ) (base : Base) (status : Option ℕ) (past : List Event) → IsId id → Owes base status (owed id (asking root)) [] past
+    → Keeps false (record { base = base; status = status; awaiting = Some (awaits.Opening id root); need = Some workspace_need }) past
+keeps_asking id root base status past named o =
+    record {
+      lawful = o.lawful;
+      knows = λ _. record {
+        force_is = o.force_is;
+        closed_is = o.closed_is;
+        table_is = o.table_is;
+        status_is = o.status_is;
+        requests_are = o.requests_are;
+        nulls_are = o.nulls_are;
+        ids = (named, tt);
+        need_is = refl;
+        plan_is = tt;
+      };
+    }
+
+-- what waits, where the workspace in force is known
+waits_in : (force : Option Space) (space : Space) (id : Id) (plan : Plan) → force ≡ Some space → owed id (building (build_in space plan)) ≡ building_in force id plan
+waits_in force space id plan is = sym (ap (λ f. building_in f id plan) is)
+
+-- a build, until it has its documents
+pub keeps_building : (id : Id) (plan : Plan) (v : Verdict) (base : Base) (status : Option ℕ) (past : List Event) → IsId id → IsPlanOf base.force v plan → Owes base status (owed id v) [] past
+    → Keeps false (record { base = base; status = status; awaiting = Some (awaits.Building id plan); need = Some (needs.Tree (paths_in plan)) }) past
+keeps_building id plan v base status past named of o =
+    let waits = waits_in base.force of.space id plan of.in_force in
+    record {
+      lawful = o.lawful;
+      knows = λ _. record {
+        force_is = o.force_is;
+        closed_is = o.closed_is;
+        table_is = o.table_is;
+        status_is = o.status_is;
+        requests_are = o.requests_are ∙ ap (owed id) of.is ∙ waits;
+        nulls_are = o.nulls_are;
+        ids = subst EachId waits (named, tt);
+        need_is = subst (λ requests. WantedBy requests (paths_in plan)) waits (record { places = plan.places; of_build = of.places; are = refl });
+        plan_is = subst (λ f. AreIn f plan) (sym of.in_force) of.places;
+      };
+    }

@@ -1,0 +1,30 @@
+-- A build before its documents are handed out.
+use Rattle.std.specs.Prelude.{◌≢◌, ℕ, List, map, Option}
+use Rattle.std.specs.List.{All, AllPairs}
+use Rattle.std.specs.Option.{IfSome}
+use Rattle.bsp_records.specs.Shapes.{IsTextWithin}
+use Rattle.bsp_records.specs.declared.kinds.TheConstants.{ORIGIN_LIMIT}
+use Rattle.session_build.specs.Placed.{IsPlain}
+use Rattle.session_core.specs.declared.planned.Planned.TheInside.{Inside}
+use Rattle.session_law.specs.Methods.{Build}
+use Rattle.session_law.specs.declared.Place.{Place}
+use Rattle.target_graph.specs.Workspace.{Space}
+
+-- what contracts see of it
+pub record Plan : Type 0 where
+  pub asked : List ℕ
+  pub origin : Option (List ℕ)
+  pub places : List Place
+
+abbrev pub plan_of : Inside → Plan
+plan_of planned = record { asked = planned.asked; origin = planned.origin; places = planned.places }
+
+-- its addresses and its `originId` are short, and no two documents have one address
+pub record IsSound (plan : Plan) : Type 0 where
+  pub plain : All IsPlain plan.places
+  pub distinct : AllPairs ◌≢◌ (map (λ place. place.address) plan.places)
+  pub short : IfSome plan.origin (IsTextWithin ORIGIN_LIMIT)
+
+-- the build that the law speaks of
+abbrev pub build_in : Space → Plan → Build
+build_in space plan = record { space = space; asked = plan.asked; origin = plan.origin }

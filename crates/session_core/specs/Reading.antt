@@ -1,0 +1,10 @@
+-- What was handed out can be looked at.
+use Rattle.std.specs.Prelude.{Option}
+use Rattle.std.specs.List.{All}
+use Rattle.std.specs.Option.{IfSome}
+use Rattle.bsp_edge.specs.Documents.{IsReadable}
+use Rattle.session_law.specs.Order.{Entries}
+
+-- each text that was handed out is a document
+abbrev pub AreReadable : Option Entries → Type 0
+AreReadable handed = IfSome handed (λ entries. All (λ entry. IsReadable entry.1) entries)

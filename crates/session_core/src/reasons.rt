@@ -1,0 +1,87 @@
+ghost use Rattle.std.specs.Prelude.{◌≡◌, ◌++◌, IfOk, OnOk};
+ghost use Rattle.session_law.specs.Methods.{kind_text, name_behind, refused_message};
+
+use crate::verdicts::Reason;
+use ob_text::{NoMemory, Text};
+use std::alloc::Global;
+use target_graph::{FaultKind, WorkspaceFault};
+
+impl Reason {
+    ghost use Rattle.std.specs.Prelude.{◌≡◌, IfOk};
+    ghost use Rattle.session_core.specs.Judging.{code_of, message_of};
+
+    /// The code of the refusal (JSON-RPC 2.0, section 5.1; Language Server Protocol 3.17, ErrorCodes).
+    /// -32010 is this server's own.
+    pub fn code(&self) -> i64
+        ensures { result ≡ code_of self.now }
+    {
+        match self {
+            Reason::NotInitialized => -32002,
+            Reason::Invalid => -32600,
+            Reason::Unknown => -32601,
+            Reason::BadParams(_) => -32602,
+            Reason::Unreadable => -32603,
+            Reason::Workspace(_) => -32010,
+        }
+    }
+
+    pub fn message(&self, alloc: Global) -> Result<Text, NoMemory>
+        ensures { IfOk result (λ text. text ≡ message_of self.now) }
+    {
+        match self {
+            Reason::NotInitialized => Text::new(alloc, b"server not initialized"),
+            Reason::Invalid => Text::new(alloc, b"invalid request"),
+            Reason::Unknown => Text::new(alloc, b"method not found"),
+            Reason::BadParams(path) => joined(alloc, b"invalid params: ", path.as_slice()),
+            Reason::Unreadable => Text::new(alloc, b"sources unreadable"),
+            Reason::Workspace(fault) => refused_message(alloc, fault),
+        }
+    }
+}
+
+fn joined(alloc: Global, front: &[u8], back: &[u8]) -> Result<Text, NoMemory>
+    ensures { IfOk result (λ text. text ≡ front.now ++ back.now) }
+{
+    let mut bytes = Vec::from_slice(alloc, front)?;
+    bytes.extend_from_slice(back)?;
+    Ok(Text::from_vec(bytes))
+}
+
+// The kind of the fault, and what it is about where it is about something.
+fn refused_message(alloc: Global, fault: &WorkspaceFault) -> Result<Text, NoMemory>
+    ensures { IfOk result (λ text. text ≡ refused_message fault.now.kind fault.now.name) }
+{
+    let mut bytes = Vec::from_slice(alloc, b"workspace refused: ")?;
+    bytes.extend_from_slice(kind_text(fault.kind))?;
+    add_name(&mut bytes, fault.name.as_slice())?;
+    Ok(Text::from_vec(bytes))
+}
+
+// A name goes behind a blank, where there is one.
+fn add_name(bytes: &mut Vec<u8>, name: &[u8]) -> Result<(), NoMemory>
+    ensures { OnOk result (bytes.new.items ≡ bytes.old.items ++ name_behind name.now) }
+{
+    match name {
+        [] => Ok(()),
+        [_first, ..] => {
+            bytes.extend_from_slice(b" ")?;
+            bytes.extend_from_slice(name)?;
+            Ok(())
+        }
+    }
+}
+
+fn kind_text(kind: FaultKind) -> &'static [u8]
+    ensures { result.now ≡ kind_text kind }
+{
+    match kind {
+        FaultKind::NoFile => b"NoFile",
+        FaultKind::BadJson => b"BadJson",
+        FaultKind::BadField => b"BadField",
+        FaultKind::TooMany => b"TooMany",
+        FaultKind::NameTwice => b"NameTwice",
+        FaultKind::UnknownDependency => b"UnknownDependency",
+        FaultKind::DependencyCycle => b"DependencyCycle",
+        FaultKind::StemTwice => b"StemTwice",
+    }
+}

@@ -1,0 +1,152 @@
+-- A build: the documents that it is of, what the clean build finds in them, and what is written of that.
+use Rattle.std.specs.Prelude.{◌≡◌, ◌≢◌, ◌==◌, ◌++◌, ℕ, List, [], ◌∷◌, map, filter, codes, Bool, true, false, Option, Some, None, unwrap_or, if◌then◌else◌}
+use Rattle.std.specs.List.{All, list_any, fold}
+use Rattle.std.specs.Str.{bytes_eq}
+use Rattle.ob_text.specs.Code.{severity_of}
+use Rattle.ob_text.specs.Held.{held_at}
+use Rattle.ob_text.specs.declared.code.Severity.{Severity}
+use Rattle.ob_text.specs.declared.code.Severity.TheVariants.{Error, Warning}
+use Rattle.ob_text.specs.declared.diagnostic.Diagnostic.{Diagnostic}
+use Rattle.ob_text.specs.declared.held.Held.{Held}
+use Rattle.ob_text.specs.declared.held.Held.TheVariants.{Absent}
+use Rattle.oberon_check.specs.Diagnosed.{Diagnosed}
+use Rattle.bsp_records.specs.Diagnostics.{publish_diagnostics_params_in, publish_diagnostics_params_data}
+use Rattle.bsp_records.specs.Results.{compile_result_data}
+use Rattle.bsp_records.specs.Shown.{shown}
+use Rattle.bsp_records.specs.Table.{Table, published}
+use Rattle.bsp_records.specs.declared.diagnostics.DiagnosticRecord.{DiagnosticRecord}
+use Rattle.bsp_records.specs.declared.publishing.PublishDiagnosticsParams.{PublishDiagnosticsParams}
+use Rattle.bsp_records.specs.declared.results.StatusCode.{StatusCode}
+use Rattle.bsp_records.specs.declared.results.StatusCode.TheVariants as statuses
+use Rattle.rpc_peer.specs.Said.{Said, request, notification, result, failure}
+use Rattle.rpc_peer.specs.declared.message.Id.{Id}
+use Rattle.serde_json.specs.Data.{Data}
+use Rattle.target_graph.specs.Address.{document_address}
+use Rattle.target_graph.specs.Workspace.{Space, IsClosure, pairs_of, id_of}
+use Rattle.target_graph.specs.declared.target.Pair.{Pair}
+use Rattle.task_stream.specs.Pieces.{pieces}
+use Rattle.session_law.specs.Methods.{Build, is_named}
+use Rattle.session_law.specs.Order.{Entries}
+use Rattle.session_law.specs.declared.Place.{Place}
+
+-- ---- the documents that a build is of
+
+-- a document in a target
+abbrev pub place_of : Space → Pair → Place
+place_of space pair =
+    record {
+      path = pair.path;
+      address = record { document = document_address space.root pair.path; target = id_of space pair.target };
+    }
+
+abbrev pub is_among : List ℕ → Pair → Bool
+is_among targets pair = list_any (λ target. target == pair.target) targets
+
+-- The documents of the targets asked for and of all that they depend on, in the order of the workspace file.
+pub record ArePlaces (build : Build) (places : List Place) : Type 0 where
+  pub closure : List ℕ
+  pub closed : IsClosure build.space.targets build.asked closure
+  pub are : places ≡ map (place_of build.space) (filter (is_among closure) (pairs_of build.space.targets))
+
+abbrev pub with_path : List (List ℕ) → List ℕ → List (List ℕ)
+with_path paths path = if list_any (bytes_eq path) paths then paths else paths ++ path ∷ []
+
+-- each path once, at its first place
+abbrev pub each_once : List (List ℕ) → List (List ℕ)
+each_once paths = fold with_path [] paths
+
+-- the paths that a build wants
+pub record WantsPaths (build : Build) (paths : List (List ℕ)) : Type 0 where
+  pub places : List Place
+  pub of_build : ArePlaces build places
+  pub are : paths ≡ each_once (map (λ place. place.path) places)
+
+-- ---- what the clean build finds in what was handed out
+
+-- what was handed out for a path
+abbrev pub handed_at : Entries → List ℕ → Held
+handed_at entries path = unwrap_or (held_at entries path) Absent
+
+-- a document with its diagnostics
+pub record Finding : Type 0 where
+  pub place : Place
+  pub list : List Diagnostic
+
+-- these are the diagnostics of the document by what was handed out
+abbrev pub IsFound : Entries → Finding → Type 0
+IsFound entries finding = Diagnosed (handed_at entries finding.place.path) finding.list
+
+-- each document of the build with its diagnostics, in order
+pub record CleanBuild (build : Build) (entries : Entries) (findings : List Finding) : Type 0 where
+  pub places : ArePlaces build (map (λ finding. finding.place) findings)
+  pub found : All (IsFound entries) findings
+
+abbrev pub is_error_severity : Severity → Bool
+is_error_severity Error = true
+is_error_severity Warning = false
+
+abbrev pub has_error : Finding → Bool
+has_error finding = list_any (λ diagnostic. is_error_severity (severity_of diagnostic.code)) finding.list
+
+-- the status of a build, which has an error or has none (Build Server Protocol 2.2, StatusCode)
+abbrev pub status_by : Bool → StatusCode
+status_by failed = if failed then statuses.Error else statuses.Ok
+
+-- the response to a compile with this `originId`
+unfoldable pub build_said : Id → Option (List ℕ) → Bool → Said
+build_said id origin failed = result (Some id) (compile_result_data (record { origin_id = origin; status_code = status_by failed }))
+
+abbrev pub build_answer : Id → Build → List Finding → Said
+build_answer id build findings = build_said id build.origin (list_any has_error findings)
+
+-- ---- what a client shows
+
+-- what a message publishes, as a client reads it
+abbrev pub publication_in : Said → Option PublishDiagnosticsParams
+publication_in (notification method (Some params)) =
+    if is_named (codes "build/publishDiagnostics") method then Some (publish_diagnostics_params_in params) else None
+publication_in (notification method None) = None
+publication_in (request id method params) = None
+publication_in (result id value) = None
+publication_in (failure id code text) = None
+
+abbrev pub published_if : Option PublishDiagnosticsParams → Table → Table
+published_if None table = table
+published_if (Some p) table = published p table
+
+-- what is shown once a message was written
+abbrev pub shown_by : Said → Table → Table
+shown_by m table = published_if (publication_in m) table
+
+-- the same once these messages were written, the first of them first
+abbrev pub table_with : List Said → Table → Table
+table_with messages table = fold (λ shows m. shown_by m shows) table messages
+
+-- ---- what is published
+
+-- one publication as a message
+abbrev pub publication_said : PublishDiagnosticsParams → Said
+publication_said p = notification (codes "build/publishDiagnostics") (Some (publish_diagnostics_params_data p))
+
+-- the list of a document as it is shown
+abbrev pub records_of : List Diagnostic → List DiagnosticRecord
+records_of list = map shown list
+
+-- the table shows the document's list
+abbrev pub Shows : Table → Finding → Type 0
+Shows table finding = table finding.place.address.document finding.place.address.target ≡ records_of finding.list
+
+-- a document's whole list, in its pieces
+abbrev pub list_said : Option (List ℕ) → Finding → List Said
+list_said origin finding = map publication_said (pieces finding.place.address origin (records_of finding.list))
+
+-- what is published of one document: its list, unless the client shows it
+pub record Publishes (table : Table) (origin : Option (List ℕ)) (finding : Finding) (messages : List Said) : Type 0 where
+  pub same : Shows table finding → messages ≡ []
+  pub other : ¬ (Shows table finding) → messages ≡ list_said origin finding
+
+-- what is published of several, one document after the other
+pub data PublishesAll (table : Table) (origin : Option (List ℕ)) : List Finding → List Said → Type 0 where
+  none : PublishesAll table origin [] []
+  one_more : {findings : List Finding} {messages : List Said} (finding : Finding) (own : List Said) → PublishesAll table origin findings messages
+      → Publishes (table_with messages table) origin finding own → PublishesAll table origin (findings ++ finding ∷ []) (messages ++ own)
