@@ -1,0 +1,8 @@
+use Rattle.std.proofs.Common.{◌≡◌, List, ℕ, take, map, fold}
+use Rattle.oberon_tree.specs.declared.module.NextImport.{NextImport}
+use Rattle.oberon_imports.specs.Imports.{imported_name, once_more}
+use Rattle.oberon_imports.proofs.imports_of.Given as goal
+
+abbrev pub invariant-loop-next : goal.invariant-loop-next
+invariant-loop-next l =
+    l.names.keys ≡ fold once_more l.initial.names.keys (map (λ (n : NextImport). imported_name n.import) (take l.next-index l.next-items))

@@ -1,0 +1,44 @@
+//! The modules that a module imports (The Programming Language Oberon-07, section 11).
+#![tactic(auto)]
+
+ghost use Rattle.std.specs.Prelude.{◌≡◌, IfOk, OnOk};
+ghost use Rattle.oberon_imports.specs.Imports.{imported_name, imports_in, once_more};
+
+use indexmap::IndexSet;
+use ob_text::{Name, NoMemory};
+use oberon_tree::{Import, Tree};
+use std::alloc::Global;
+
+/// The names of the modules that a module imports, each once, in the order of the text.
+pub fn imports_of(alloc: Global, tree: &Tree) -> Result<Vec<Name>, NoMemory>
+    ensures { IfOk result (λ names. names.items ≡ imports_in tree.now) }
+{
+    let mut names: IndexSet<Name> = IndexSet::new(alloc);
+    if let Some(imports) = &tree.root().imports {
+        add(alloc, &mut names, &imports.first)?;
+        for next in imports.rest.iter() {
+            add(alloc, &mut names, &next.import)?;
+        }
+    }
+    Ok(names.into_iter().collect(alloc)?)
+}
+
+fn add(alloc: Global, names: &mut IndexSet<Name>, import: &Import) -> Result<(), NoMemory>
+    ensures { OnOk result (names.new.keys ≡ once_more names.old.keys (imported_name import.now)) }
+{
+    names.insert(imported(import).copy(alloc)?)?;
+    Ok(())
+}
+
+/// The imported module's own name, which stands behind the local one where there are two.
+fn imported(import: &Import) -> &Name
+    ensures { result.now ≡ imported_name import.now }
+{
+    match &import.alias {
+        Some(alias) => &alias.imported.name,
+        None => &import.name.name,
+    }
+}
+
+#[cfg(test)]
+mod tests;
