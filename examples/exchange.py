@@ -74,8 +74,7 @@ class Client:
 def compile_all(client, note):
     """Compiles every target of the workspace that the client opened."""
     print(f"-- {note}\n")
-    targets = [{"uri": uri} for uri in client.targets]
-    client.request("buildTarget/compile", {"targets": targets})
+    client.request("buildTarget/compile", {"targets": client.targets})
 
 
 def without_a_semicolon(text):
@@ -87,7 +86,6 @@ def without_a_semicolon(text):
 def show_session(client, folder):
     root = folder.as_uri()
     workspace = json.loads((folder / "oberon-build.json").read_text())
-    client.targets = [f"{root}/?id={target['name']}" for target in workspace["targets"]]
     module = folder / workspace["targets"][0]["modules"][0]
     client.request(
         "build/initialize",
@@ -99,6 +97,9 @@ def show_session(client, folder):
             "capabilities": {"languageIds": ["oberon"]},
         },
     )
+    told = client.request("workspace/buildTargets")
+    client.targets = [target["id"] for target in told["result"]["targets"]]
+    client.request("buildTarget/sources", {"targets": client.targets})
     text = module.read_text()
     compile_all(client, f"{module.name} as it is:")
     module.write_text(without_a_semicolon(text))

@@ -6,7 +6,7 @@ use std::alloc::Global;
 use std::process::Abort;
 use std::test::Fail;
 
-const APP: &[u8] =
+pub const APP: &[u8] =
     b"{\"version\":1,\"targets\":[{\"name\":\"app\",\"kind\":\"application\",\"modules\":[\"A.Mod\"],\"main\":\"A\"}]}";
 
 const APP_ON_LIB: &[u8] =
@@ -61,10 +61,10 @@ const UNKNOWN_TARGET: &[u8] =
 const UNREADABLE_2: &[u8] =
     b"{\"error\":{\"code\":-32603,\"message\":\"sources unreadable\"},\"id\":2,\"jsonrpc\":\"2.0\"}";
 
-type Files<'a> = &'a [(&'a [u8], &'a [u8])];
+pub type Files<'a> = &'a [(&'a [u8], &'a [u8])];
 
 /// A tree with these files, of which the second list is put in before the tree's call of that number.
-fn tree(
+pub fn tree(
     alloc: Global,
     files: Files,
     changes: &[(u64, &[u8], &[u8])],
@@ -87,7 +87,7 @@ fn tree(
 
 /// Runs a session that is opened, sends these requests and is closed, and looks at what is answered
 /// between.
-fn expect(
+pub fn expect(
     rt: &(impl Abort + AllocGlobal),
     tree: &mut MemTree,
     requests: &[&[u8]],

@@ -25,6 +25,8 @@ use std::rt::Env;
 #[cfg(test)]
 mod compile_tests;
 #[cfg(test)]
+mod question_tests;
+#[cfg(test)]
 mod tests;
 
 fn main(rt: HostRuntime) -> ExitCode {

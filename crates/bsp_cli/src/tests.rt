@@ -265,7 +265,7 @@ fn judges_before_and_behind_the_session(rt: HostRuntime) -> Result<(), Fail> {
 #[test]
 fn judges_bodies_and_ids(rt: HostRuntime) -> Result<(), Fail> {
     let alloc = rt.alloc();
-    let cases: [(&[u8], &[u8]); 7] = [
+    let cases: [(&[u8], &[u8]); 8] = [
         (UNKNOWN, UNKNOWN_ANSWER),
         (b"", NO_JSON),
         (b"{", NO_JSON),
@@ -277,6 +277,10 @@ fn judges_bodies_and_ids(rt: HostRuntime) -> Result<(), Fail> {
         (
             b"{\"jsonrpc\":\"2.0\",\"id\":9223372036854775808,\"method\":\"x\"}",
             INVALID_BODY,
+        ),
+        (
+            b"{\"jsonrpc\":\"2.0\",\"id\":9223372036854775807,\"method\":\"x\"}",
+            b"{\"error\":{\"code\":-32601,\"message\":\"method not found\"},\"id\":9223372036854775807,\"jsonrpc\":\"2.0\"}",
         ),
         (
             b"{\"jsonrpc\":\"2.0\",\"id\":\"a\",\"method\":\"x\"}",
@@ -292,6 +296,25 @@ fn judges_bodies_and_ids(rt: HostRuntime) -> Result<(), Fail> {
         let left = run_on(alloc, session, Vec::new(alloc))?;
         expect_left(&rt, &left, 1, read, answers.as_slice(), b"");
     }
+    Ok(())
+}
+
+#[test]
+fn largest_frame(rt: HostRuntime) -> Result<(), Fail> {
+    let alloc = rt.alloc();
+    let mut session = joined(
+        alloc,
+        &[
+            INITIALIZE,
+            b"Content-Length: 16777216\r\n\r\n{\"jsonrpc\":\"2.0\",\"id\":2,\"method\":\"build/shutdown\"}",
+        ],
+    )?;
+    session.resize(203 + 28 + 16_777_216, b' ')?;
+    session.extend_from_slice(EXIT)?;
+    let answers = joined(alloc, &[INITIALIZED, CLOSED])?;
+    let read = session.len() as u64;
+    let left = run_on(alloc, session, Vec::new(alloc))?;
+    expect_left(&rt, &left, 0, read, answers.as_slice(), b"");
     Ok(())
 }
 

@@ -3,3 +3,4 @@ pub mod ShownLaws
 pub mod ExactLaws
 pub mod PathLaws
 pub mod ShortLaws
+pub mod AnswerLaws

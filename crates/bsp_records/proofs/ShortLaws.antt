@@ -1,5 +1,5 @@
 -- How long records print at most.
-use Rattle.std.proofs.Common.{◌≡◌, ◌≤◌, ◌<◌, ◌+◌, ◌*◌, ◌/◌, ◌%◌, ◌++◌, ◌∙◌, ℕ, suc, List, [], ◌∷◌, length, map, take, Bool, true, false, cond, ltb, Option, Some, None, option_map, lit≤, sym, ap, subst, arith, length-append}
+use Rattle.std.proofs.Common.{◌≡◌, ◌≤◌, ◌<◌, ◌+◌, ◌*◌, ◌/◌, ◌%◌, ◌++◌, ◌∙◌, ℕ, suc, List, [], ◌∷◌, length, map, flat_map, take, Bool, true, false, cond, ltb, Option, Some, None, option_map, lit≤, sym, ap, subst, arith, length-append}
 use Rattle.std.specs.Prelude.{codes}
 use Rattle.std.specs.Char.{digit_char}
 use Rattle.std.specs.List.{All}
@@ -8,9 +8,10 @@ use Rattle.std.specs.Ordering.{match_ordering, nat_cmp}
 use Rattle.std.specs.declared.cmp.Ordering.{Ordering}
 use Rattle.std.specs.declared.cmp.Ordering.TheVariants.{Less, Equal, Greater}
 use Rattle.std.specs.Cmp.Lexicographic.{slice_cmp}
+use Rattle.std.proofs.Math.Nat.{add-mul}
 use Rattle.std.proofs.lemmas.Fmt.{length-decimal-le}
-use Rattle.std.proofs.lemmas.List.{length-map, length-take}
-use Rattle.std.proofs.lemmas.List.Elements.{All-head, All-tail, All-map, All-weaker}
+use Rattle.std.proofs.lemmas.List.{length-take}
+use Rattle.std.proofs.lemmas.List.Elements.{All-head, All-tail}
 use Rattle.ob_text.specs.Code.{name_of, message_of}
 use Rattle.ob_text.specs.declared.code.Code.{Code}
 use Rattle.ob_text.specs.declared.code.Code.TheVariants.{DocumentAbsent}
@@ -37,36 +38,39 @@ through h k = omega arith
 
 -- ---- texts and numbers
 
-cond_short : (b : Bool) (xs ys : List ℕ) → length xs ≤ 6 → length ys ≤ 6 → length (cond b xs ys) ≤ 6
-cond_short true xs ys h k = h
-cond_short false xs ys h k = k
+pub cond_short : (b : Bool) (limit : ℕ) (xs ys : List ℕ) → length xs ≤ limit → length ys ≤ limit → length (cond b xs ys) ≤ limit
+cond_short true limit xs ys h k = h
+cond_short false limit xs ys h k = k
+
+-- what is printed for a control character that has no letter
+abbrev pub coded : ℕ → List ℕ
+coded b = 92 ∷ 117 ∷ 48 ∷ 48 ∷ digit_char (b / 16) ∷ digit_char (b % 16) ∷ []
 
 escaped_byte : (b : ℕ) → length (escape_byte b) ≤ 6
 unfolding escape_byte
 escaped_byte b =
-    let coded : List ℕ = 92 ∷ 117 ∷ 48 ∷ 48 ∷ digit_char (b / 16) ∷ digit_char (b % 16) ∷ [] in
-    cond_short (ltb 0 (escape_letter b)) (92 ∷ escape_letter b ∷ []) (cond (ltb b 32) coded (b ∷ [])) (lit≤ tt)
-    (cond_short (ltb b 32) coded (b ∷ []) (lit≤ tt) (lit≤ tt))
+    cond_short (ltb 0 (escape_letter b)) 6 (92 ∷ escape_letter b ∷ []) (cond (ltb b 32) (coded b) (b ∷ [])) (lit≤ tt)
+    (cond_short (ltb b 32) 6 (coded b) (b ∷ []) (lit≤ tt) (lit≤ tt))
 
-escaped : (text : List ℕ) → length (escape text) ≤ 6 * length text
+pub escaped : (text : List ℕ) → length (escape text) ≤ 6 * length text
 escaped [] = lit≤ tt
 escaped (b ∷ text) = rw (length-append (escape_byte b) (escape text)) (omega (arith, escaped_byte b, escaped text))
 
-text_short : (text : List ℕ) → length (quoted text) ≤ 6 * length text + 2
+pub text_short : (text : List ℕ) → length (quoted text) ≤ 6 * length text + 2
 text_short text = rw (length-append (escape text) (34 ∷ [])) (omega (arith, escaped text))
 
-number_short : (n : ℕ) → n < 4294967296 → length (compact_text (number (unsigned n))) ≤ 10
+pub number_short : (n : ℕ) → n < 4294967296 → length (compact_text (number (unsigned n))) ≤ 10
 number_short n small = length-decimal-le 10 n (omega arith) (omega arith) (omega arith)
 
 -- ---- objects
 
-length_member : (later : Bool) (k : List ℕ) (d : Data) (ms : Members)
+pub length_member : (later : Bool) (k : List ℕ) (d : Data) (ms : Members)
     → length (members_text later (member k d ms)) ≡ length (comma_if later) + (length (quoted k) + suc (length (compact_text d) + length (members_text true ms)))
 length_member later k d ms =
     length-append (comma_if later) _
     ∙ ap (λ n. length (comma_if later) + n) (length-append (quoted k) _ ∙ ap (λ n. length (quoted k) + suc n) (length-append (compact_text d) (members_text true ms)))
 
-comma_short : (later : Bool) → length (comma_if later) ≤ 1
+pub comma_short : (later : Bool) → length (comma_if later) ≤ 1
 comma_short true = lit≤ tt
 comma_short false = lit≤ tt
 
@@ -77,10 +81,10 @@ by_order Equal later a b c n x y z = y
 by_order Greater later a b c n x y z = z
 
 -- the most bytes that one more member adds
-abbrev member_room : List ℕ → Data → ℕ
+abbrev pub member_room : List ℕ → Data → ℕ
 member_room name d = 6 * length name + (length (compact_text d) + 4)
 
-put_short : (later : Bool) (k : List ℕ) (d : Data) (ms : Members) → length (members_text later (put k d ms)) ≤ member_room k d + length (members_text later ms)
+pub put_short : (later : Bool) (k : List ℕ) (d : Data) (ms : Members) → length (members_text later (put k d ms)) ≤ member_room k d + length (members_text later ms)
 put_short later k d no_members =
     let whole = length_member later k d no_members in
     let key = text_short k in
@@ -98,11 +102,11 @@ put_short later k d (member l e ms) =
     by_order (slice_cmp nat_cmp k l) later (member k d (member l e ms)) (member l d ms) (member l e (put k d ms))
     (member_room k d + length (members_text later (member l e ms))) (omega arith) (omega arith) (omega arith)
 
-abbrev field_room : List ℕ → Option Data → ℕ
+abbrev pub field_room : List ℕ → Option Data → ℕ
 field_room name None = 0
 field_room name (Some d) = member_room name d
 
-abbrev room : List (List ℕ × Option Data) → ℕ
+abbrev pub room : List (List ℕ × Option Data) → ℕ
 room [] = 0
 room (field ∷ fields) = field_room field.0 field.1 + room fields
 
@@ -117,27 +121,49 @@ with_members_short (field ∷ fields) ms =
     let others = with_members_short fields (with_member field.0 field.1 ms) in
     omega arith
 
-object_short : (fields : List (List ℕ × Option Data)) → length (compact_text (object_with fields)) ≤ room fields + 2
+pub object_short : (fields : List (List ℕ × Option Data)) → length (compact_text (object_with fields)) ≤ room fields + 2
 object_short fields = let all = with_members_short fields no_members in omega arith
 
 -- ---- lists
 
--- the most bytes of a diagnostic
-abbrev record_room : ℕ
-record_room = 3000
+-- the most bytes that the items add, each with a comma before it
+abbrev pub items_room : List Data → ℕ
+items_room [] = 0
+items_room (d ∷ ds) = suc (length (compact_text d)) + items_room ds
 
-items_short : (later : Bool) (ds : List Data) → All (λ d. length (compact_text d) ≤ record_room) ds → length (items_text later (items_of ds)) ≤ 3001 * length ds + 1
-items_short later [] all = lit≤ tt
-items_short later (d ∷ ds) all =
-    let first = All-head (λ d. length (compact_text d) ≤ record_room) d ds all in
-    let others = items_short true ds (All-tail (λ d. length (compact_text d) ≤ record_room) d ds all) in
+items_short : (later : Bool) (ds : List Data) → length (items_text later (items_of ds)) ≤ items_room ds + 1
+items_short later [] = lit≤ tt
+items_short later (d ∷ ds) =
+    let others = items_short true ds in
     let comma = comma_short later in
     let whole = length-append (comma_if later) (compact_text d ++ items_text true (items_of ds)) in
     let behind = length-append (compact_text d) (items_text true (items_of ds)) in
     omega arith
 
-list_short : (ds : List Data) → All (λ d. length (compact_text d) ≤ record_room) ds → length ds ≤ 100 → length (compact_text (array_with ds)) ≤ 300200
-list_short ds all few = let items = items_short false ds all in omega arith
+pub array_short : (ds : List Data) → length (compact_text (array_with ds)) ≤ items_room ds + 2
+array_short ds = let items = items_short false ds in omega arith
+
+-- a list of things, each of which takes less than some bytes of its own and some for each of its parts
+pub parts_room : {X Y : Type 0} (to_data : X → Data) (parts : X → List Y) (P : X → Type 0) (each own : ℕ)
+    → ((x : X) → P x → length (compact_text (to_data x)) < length (parts x) * each + own)
+    → (xs : List X) → All P xs → items_room (map to_data xs) ≤ length (flat_map parts xs) * each + length xs * own
+parts_room to_data parts P each own one [] all = omega arith
+parts_room to_data parts P each own one (x ∷ xs) all =
+    let first = one x (All-head P x xs all) in
+    let others = parts_room to_data parts P each own one xs (All-tail P x xs all) in
+    let joined = ap (λ n. n * each) (length-append (parts x) (flat_map parts xs)) in
+    let apart = add-mul (length (parts x)) (length (flat_map parts xs)) each in
+    let one_more = add-mul 1 (length xs) own in
+    omega arith
+
+abbrev no_parts : List Data
+no_parts = []
+
+pub list_room : {X : Type 0} (to_data : X → Data) (P : X → Type 0) (own : ℕ) → ((x : X) → P x → length (compact_text (to_data x)) < own)
+    → (xs : List X) → All P xs → items_room (map to_data xs) ≤ length xs * own
+list_room {X} to_data P own one xs all =
+    let items = parts_room to_data (λ (x : X). no_parts) P 0 own (λ x h. omega (arith, one x h)) xs all in
+    omega arith
 
 -- ---- records
 
@@ -166,6 +192,10 @@ text_room : (name : List ℕ) (limit : ℕ) (found : Option (List ℕ)) → IfSo
 text_room name limit None within = omega arith
 text_room name limit (Some text) within = omega (arith, text_short text, within)
 
+-- the most bytes of a diagnostic
+abbrev record_room : ℕ
+record_room = 3000
+
 diagnostic_short : (r : DiagnosticRecord) → IsShortRecord r → length (compact_text (diagnostic_data r)) ≤ record_room
 diagnostic_short r short =
     through (object_short ((codes "range", Some (range_data r.range)) ∷ (codes "severity", option_map severity_data r.severity) ∷ (codes "code", option_map string r.code)
@@ -181,7 +211,7 @@ identifier_short : (uri : List ℕ) → IsShortAddress uri → length (compact_t
 identifier_short uri short =
     through (object_short ((codes "uri", Some (string uri)) ∷ [])) (let text = text_room (codes "uri") 4400 (Some uri) short in omega arith)
 
-flag_short : (b : Bool) → length (compact_text (boolean b)) ≤ 5
+pub flag_short : (b : Bool) → length (compact_text (boolean b)) ≤ 5
 flag_short true = lit≤ tt
 flag_short false = lit≤ tt
 
@@ -192,10 +222,9 @@ publication_short p short =
     (let document = identifier_short p.text_document.uri short.document in
     let target = identifier_short p.build_target.uri short.target in
     let origin = text_room (codes "originId") ORIGIN_LIMIT p.origin_id short.origin in
-    let count = length-map p.diagnostics diagnostic_data in
-    let each = All-map (λ d. length (compact_text d) ≤ record_room) diagnostic_data p.diagnostics (All-weaker IsShortRecord (λ r. length (compact_text (diagnostic_data r)) ≤ record_room) diagnostic_short p.diagnostics short.diagnostics) in
     let few = short.count in
-    let list = list_short (map diagnostic_data p.diagnostics) each (omega arith) in
+    let items = list_room diagnostic_data IsShortRecord (suc record_room) (λ r short. omega (arith, diagnostic_short r short)) p.diagnostics short.diagnostics in
+    let list = array_short (map diagnostic_data p.diagnostics) in
     let flag = flag_short p.reset in
     omega arith)
 

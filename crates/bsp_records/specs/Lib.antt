@@ -9,5 +9,6 @@ pub mod Shown
 pub mod Table
 pub mod Params
 pub mod Results
+pub mod ShortAnswers
 pub mod Tasks
 pub mod Notices

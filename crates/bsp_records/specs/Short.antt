@@ -23,9 +23,12 @@ pub record IsShortRecord (r : DiagnosticRecord) : Type 0 where
   pub source : IfSome r.source (IsWithin 10)
   pub message : IsWithin 200 r.message
 
--- an address of a document or a target
+-- the most bytes of a short address of a document or a target
+abbrev pub address_limit : ℕ
+address_limit = 4400
+
 abbrev pub IsShortAddress : List ℕ → Type 0
-IsShortAddress = IsWithin 4400
+IsShortAddress = IsWithin address_limit
 
 pub record IsShortPublication (p : PublishDiagnosticsParams) : Type 0 where
   pub document : IsShortAddress p.text_document.uri

@@ -1,10 +1,11 @@
-ghost use Rattle.std.specs.Prelude.{⊤, ◌≡◌, false, IfOk, IfSome};
+ghost use Rattle.std.specs.Prelude.{⊤, ◌≡◌, ◌≤◌, false, length, IfOk, IfSome};
 ghost use Rattle.std.specs.List.{All};
 ghost use Rattle.std.specs.Str.{IsUtf8};
 ghost use Rattle.serde_json.specs.View.{view};
-ghost use Rattle.serde_json.specs.Written.{has_float};
+ghost use Rattle.serde_json.specs.Written.{compact_text, has_float};
 ghost use Rattle.bsp_records.specs.Params.{IsTarget};
 ghost use Rattle.bsp_records.specs.Results.{target_capabilities_data, build_target_data, build_targets_result_data, source_item_kind_data, source_item_data, sources_item_data, sources_result_data, inverse_sources_result_data, status_data, compile_result_data, test_result_data, run_result_data, clean_cache_result_data, HasBuildTargetTexts, HasSourceTexts, HasSourcesTexts};
+ghost use Rattle.bsp_records.specs.ShortAnswers.{IsShortTargets, IsShortSources, IsShortInverseSources, answer_limit};
 
 use crate::identifiers::BuildTargetIdentifier;
 use crate::writing::{Write, put, put_some};
@@ -109,7 +110,8 @@ pub struct CleanCacheResult {
     pub cleaned: bool,
 }
 
-/// Writes the result of workspace/buildTargets.
+/// Writes the result of workspace/buildTargets. That of a short answer prints in a part of a frame.
+#[tactic(auto, using(crate::proofs::AnswerLaws::targets_print))]
 pub fn write_build_targets_result(
     alloc: Global,
     answer: &BuildTargetsResult,
@@ -117,20 +119,27 @@ pub fn write_build_targets_result(
     requires { All HasBuildTargetTexts answer.now.targets }
     ensures data { IfOk result (λ value. view value ≡ build_targets_result_data answer.now) }
     ensures exact { IfOk result (λ value. has_float (view value) ≡ false) }
+    ensures short { IsShortTargets answer.now
+        → IfOk result (λ value. length (compact_text (view value)) ≤ answer_limit) }
 {
     answer.write(alloc)
 }
 
-/// Writes the result of buildTarget/sources.
+/// Writes the result of buildTarget/sources. That of a short answer prints in a part of a frame.
+#[tactic(auto, using(crate::proofs::AnswerLaws::sources_print))]
 pub fn write_sources_result(alloc: Global, answer: &SourcesResult) -> Result<Value, NoMemory>
     requires { All HasSourcesTexts answer.now.items }
     ensures data { IfOk result (λ value. view value ≡ sources_result_data answer.now) }
     ensures exact { IfOk result (λ value. has_float (view value) ≡ false) }
+    ensures short { IsShortSources answer.now
+        → IfOk result (λ value. length (compact_text (view value)) ≤ answer_limit) }
 {
     answer.write(alloc)
 }
 
-/// Writes the result of buildTarget/inverseSources.
+/// Writes the result of buildTarget/inverseSources. That of a short answer prints in a part of a
+/// frame.
+#[tactic(auto, using(crate::proofs::AnswerLaws::inverse_sources_print))]
 pub fn write_inverse_sources_result(
     alloc: Global,
     answer: &InverseSourcesResult,
@@ -138,6 +147,8 @@ pub fn write_inverse_sources_result(
     requires { All IsTarget answer.now.targets }
     ensures data { IfOk result (λ value. view value ≡ inverse_sources_result_data answer.now) }
     ensures exact { IfOk result (λ value. has_float (view value) ≡ false) }
+    ensures short { IsShortInverseSources answer.now
+        → IfOk result (λ value. length (compact_text (view value)) ≤ answer_limit) }
 {
     answer.write(alloc)
 }

@@ -2,7 +2,8 @@ ghost use Rattle.std.specs.Prelude.{◌≡◌, ◌≢◌, ◌==◌, ◌<◌, ℕ
 ghost use Rattle.std.specs.List.{All, AllPairs, list_any, slice_get};
 ghost use Rattle.std.specs.Str.{bytes_eq};
 ghost use Rattle.indexmap.specs.IndexSet.{contains};
-ghost use Rattle.session_law.specs.Builds.{ArePlaces, each_once, place_of, with_path};
+ghost use Rattle.session_law.specs.Builds.{ArePlaces, place_of};
+ghost use Rattle.session_law.specs.Once.{each_once, once_more};
 ghost use Rattle.session_build.specs.Placed.{IsPlain, build_of};
 ghost use Rattle.target_graph.specs.Workspace.{pairs_of};
 ghost use Rattle.target_graph.specs.declared.target.Pair.{Pair};
@@ -70,7 +71,7 @@ fn place_at(alloc: Global, workspace: &Workspace, pair: u32) -> Result<Place, No
 
 /// The paths of some documents, each once, at its first place.
 pub fn paths_of(alloc: Global, places: &[Place]) -> Result<Items<Path>, NoMemory>
-    ensures { IfOk result (λ paths. paths ≡ each_once (map (λ place. place.path) places.now)) }
+    ensures { IfOk result (λ paths. paths ≡ each_once bytes_eq (map (λ place. place.path) places.now)) }
 {
     let mut seen = IndexSet::new(alloc);
     let mut paths = Vec::new(alloc);
@@ -85,7 +86,7 @@ pub fn paths_of(alloc: Global, places: &[Place]) -> Result<Items<Path>, NoMemory
 /// Puts a path behind the others, and tells whether it is new.
 fn see(alloc: Global, seen: &mut IndexSet<Path>, path: &Path) -> Result<bool, NoMemory>
     ensures new { IfOk result (λ new. new ≡ not (list_any (bytes_eq path.now) seen.old.keys)) }
-    ensures keys { IfOk result (λ new. seen.new.keys ≡ with_path seen.old.keys path.now) }
+    ensures keys { IfOk result (λ new. seen.new.keys ≡ once_more bytes_eq seen.old.keys path.now) }
 {
     let (_, new) = seen.insert_full(path.copy(alloc)?)?;
     Ok(new)

@@ -1,5 +1,5 @@
 -- The messages of the server are printed in one way, and fit a frame.
-use Rattle.std.proofs.Common.{◌≡◌, ◌≤◌, ◌++◌, ℕ, suc, ◌+◌, ◌*◌, cond, lit≤, IfSome, ltb, ◌/◌, ◌%◌, ◌<◌, ◌^◌, ℤ, pos, negsuc, List, [], ◌∷◌, length, Bool, true, false, Some, None, decimal, refl, ap, ◌∙◌, arith, length-append}
+use Rattle.std.proofs.Common.{◌≡◌, ◌≤◌, ◌++◌, ℕ, suc, ◌+◌, ◌*◌, cond, lit≤, IfSome, ◌<◌, ◌^◌, ℤ, pos, negsuc, List, [], ◌∷◌, length, Bool, true, false, Some, None, decimal, refl, arith, length-append}
 use Rattle.std.specs.Prelude.{codes, FitsSigned, Option}
 use Rattle.std.specs.Int.{w64}
 use Rattle.std.specs.Ordering.{int_eq}
@@ -7,11 +7,10 @@ use Rattle.std.specs.Str.{IsAscii, IsUtf8}
 use Rattle.std.proofs.lemmas.Str.{IsUtf8-append, IsUtf8-from_ascii}
 use Rattle.std.proofs.lemmas.Int.{ints}
 use Rattle.std.proofs.lemmas.Fmt.{length-decimal-le}
-use Rattle.std.specs.Char.{digit_char}
-use Rattle.json.specs.Print.{quoted, escape, escape_byte, escape_letter}
+use Rattle.json.specs.Print.{quoted}
 use Rattle.serde_json.specs.Data.{Data, null, number, object, Members, member, no_members, string}
 use Rattle.serde_json.specs.Find.{of_integer}
-use Rattle.serde_json.specs.Written.{compact_text, members_text, has_float}
+use Rattle.serde_json.specs.Written.{compact_text, members_text, comma_if, has_float}
 use Rattle.serde_json.proofs.OnLiterals.{serde_json_on_literals}
 use Rattle.rpc_peer.specs.declared.message.Id.{Id}
 use Rattle.rpc_peer.specs.declared.message.Id.TheVariants.{Number, Text}
@@ -19,12 +18,14 @@ use Rattle.rpc_peer.specs.Said.{IsId, HasText, id_data, id_limit, answered_data,
 use Rattle.rpc_frame.specs.declared.TheConstants.{CONTENT_LIMIT}
 use Rattle.bsp_records.specs.Results.{compile_result_data, status_data}
 use Rattle.bsp_records.specs.Shapes.{IsTextWithin}
+use Rattle.bsp_records.specs.ShortAnswers.{answer_limit}
+use Rattle.bsp_records.proofs.ShortLaws.{length_member, text_short}
 use Rattle.bsp_records.specs.declared.kinds.TheConstants.{ORIGIN_LIMIT}
 use Rattle.session_law.specs.Builds.{build_said, status_by}
 use Rattle.session_law.specs.Lawful.{IsFramed}
 use Rattle.session_law.specs.Methods.{initialize_result, null_message, kind_text, name_behind}
 use Rattle.rpc_peer.specs.Meaning.{parse_error}
-use Rattle.session_core.specs.Judging.{answer_to, code_of, message_of, IsSaid}
+use Rattle.session_core.specs.Judging.{answer_to, code_of, message_of, IsPrinted, IsSaid}
 use Rattle.session_core.specs.declared.verdicts.Answer.{Answer}
 use Rattle.session_core.specs.declared.verdicts.Answer.TheVariants.{Opening, Closing, Refused}
 use Rattle.session_core.specs.declared.verdicts.Reason.{Reason}
@@ -35,30 +36,13 @@ use Rattle.session_core.proofs.Literals.{literal_text}
 
 -- ---- how long the text of a value is
 
-cond_short : (b : Bool) (xs ys : List ℕ) → length xs ≤ 6 → length ys ≤ 6 → length (cond b xs ys) ≤ 6
-cond_short true xs ys h k = h
-cond_short false xs ys h k = k
-
-escaped_byte : (b : ℕ) → length (escape_byte b) ≤ 6
-unfolding escape_byte
-escaped_byte b =
-    let coded : List ℕ = 92 ∷ 117 ∷ 48 ∷ 48 ∷ digit_char (b / 16) ∷ digit_char (b % 16) ∷ [] in
-    cond_short (ltb 0 (escape_letter b)) (92 ∷ escape_letter b ∷ []) (cond (ltb b 32) coded (b ∷ [])) (lit≤ tt)
-    (cond_short (ltb b 32) coded (b ∷ []) (lit≤ tt) (lit≤ tt))
-
-escaped : (text : List ℕ) → length (escape text) ≤ 6 * length text
-escaped [] = lit≤ tt
-escaped (b ∷ text) = rw (length-append (escape_byte b) (escape text)) (omega (arith, escaped_byte b, escaped text))
-
 length_object : (k : List ℕ) (d : Data) (ms : Members)
     → length (compact_text (object (member k d ms))) ≡ suc (length (quoted k) + suc (length (compact_text d) + length (members_text true ms)))
-length_object k d ms =
-    ap suc (length-append (quoted k) _ ∙ ap (λ n. length (quoted k) + n) (ap suc (length-append (compact_text d) _)))
+length_object k d ms = let first : length (comma_if false) ≡ 0 = refl in let whole = length_member false k d ms in omega arith
 
 length_members : (k : List ℕ) (d : Data) (ms : Members)
     → length (members_text true (member k d ms)) ≡ suc (length (quoted k) + suc (length (compact_text d) + length (members_text true ms)))
-length_members k d ms =
-    ap suc (length-append (quoted k) _ ∙ ap (λ n. length (quoted k) + n) (ap suc (length-append (compact_text d) _)))
+length_members k d ms = let later : length (comma_if true) ≡ 1 = refl in let whole = length_member true k d ms in omega arith
 
 number_short : (z : ℤ) → FitsSigned w64 z → length (compact_text (number (of_integer z))) ≤ 20
 number_short (pos n) h = let small : n < 2 ^ 63 = omega (arith, ints) in length-decimal-le 20 n (omega arith) (omega arith) (omega arith)
@@ -73,7 +57,7 @@ id_text_limit = 6 * id_limit + 2
 
 id_short : (id : Id) → IsId id → length (compact_text (id_data id)) ≤ id_text_limit
 id_short (Number n) h = let short = number_short n h in omega (arith, short)
-id_short (Text t) h = rw (length-append (escape t) (34 ∷ [])) (omega (arith, escaped t, h.1))
+id_short (Text t) h = omega (arith, text_short t, h.1)
 
 answered_short : (id : Option Id) → IfSome id IsId → length (compact_text (answered_data id)) ≤ id_text_limit
 answered_short None h = lit≤ tt
@@ -131,7 +115,7 @@ either_text false = literal_text (codes "invalid request") refl
 
 -- ---- the responses
 
-result_fits : (id : Id) (value : Data) → IsId id → length (members_text true (behind_id value)) ≤ 10000 → length (body_of (result (Some id) value)) ≤ CONTENT_LIMIT
+result_fits : (id : Id) (value : Data) → IsId id → length (members_text true (behind_id value)) ≤ 16500000 → length (body_of (result (Some id) value)) ≤ CONTENT_LIMIT
 unfolding body_of
 result_fits id value h short =
     let whole = length_object (codes "id") (id_data id) (behind_id value) in
@@ -191,7 +175,7 @@ with_origin : (text : List ℕ) (failed : Bool) → length text ≤ ORIGIN_LIMIT
     → length (compact_text (object (member (codes "originId") (string text) (member (codes "statusCode") (status_data (status_by failed)) no_members)))) ≤ 7000
 with_origin text failed short =
     let whole = length_object (codes "originId") (string text) (member (codes "statusCode") (status_data (status_by failed)) no_members) in
-    let quotes : length (quoted text) ≤ 6 * length text + 2 = rw (length-append (escape text) (34 ∷ [])) (let e = escaped text in omega (arith, e)) in
+    let quotes = text_short text in
     let key = origin_key in
     let last = behind_origin failed in
     omega arith
@@ -215,8 +199,8 @@ version_short : length (compact_text version) ≤ 5
 unfolding serde_json_on_literals
 version_short = lit≤ tt
 
-behind_short_value : (value : Data) → length (compact_text value) ≤ 7000 → length (members_text true (behind_id value)) ≤ 10000
-behind_short_value value short =
+behind_value : (value : Data) (limit : ℕ) → length (compact_text value) ≤ limit → length (members_text true (behind_id value)) ≤ limit + 100
+behind_value value limit short =
     let whole = length_members (codes "jsonrpc") version (member (codes "result") value no_members) in
     let rest = length_members (codes "result") value no_members in
     let first = version_key in
@@ -225,6 +209,17 @@ behind_short_value value short =
     let last : length (members_text true no_members) ≤ 1 = lit≤ tt in
     omega arith
 
+-- ---- the response to a question
+
+pub framed_result : (id : Id) (value : Data) → IsId id → IsPrinted value → IsFramed (result (Some id) value)
+framed_result id value h printed =
+    record {
+      of_server = tt;
+      texts = id_text id h;
+      exact = rw (id_exact id, printed.exact);
+      fits = result_fits id value h (let behind = behind_value value answer_limit printed.short in omega arith);
+    }
+
 pub framed_build : (id : Id) (origin : Option (List ℕ)) (failed : Bool) → IsId id → IfSome origin (IsTextWithin ORIGIN_LIMIT) → IsFramed (build_said id origin failed)
 unfolding build_said
 framed_build id origin failed h short =
@@ -232,7 +227,7 @@ framed_build id origin failed h short =
       of_server = tt;
       texts = id_text id h;
       exact = rw (id_exact id, compiled_exact origin failed);
-      fits = result_fits id (compiled origin failed) h (behind_short_value (compiled origin failed) (compiled_short origin failed short));
+      fits = result_fits id (compiled origin failed) h (let behind = behind_value (compiled origin failed) 7000 (compiled_short origin failed short) in omega arith);
     }
 
 -- a failure whose error object is short fits
@@ -255,7 +250,7 @@ error_short : (code : ℤ) (text : List ℕ) → FitsSigned w64 code → length 
 error_short code text h short =
     let whole = length_object (codes "code") (number (of_integer code)) (member (codes "message") (string text) no_members) in
     let message = length_members (codes "message") (string text) no_members in
-    let quotes : length (quoted text) ≤ 6 * length text + 2 = rw (length-append (escape text) (34 ∷ [])) (let e = escaped text in omega (arith, e)) in
+    let quotes = text_short text in
     let key = code_key in
     let second = message_key in
     let digits = number_short code h in

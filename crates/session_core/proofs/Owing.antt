@@ -4,17 +4,18 @@ use Rattle.std.proofs.lemmas.Bool.{eq-eqb}
 use Rattle.std.proofs.lemmas.Bool.Decides.{Decides-int_eq}
 use Rattle.std.specs.Cmp.Lexicographic.{pointwise}
 use Rattle.ob_text.specs.declared.held.Held.{Held}
-use Rattle.serde_json.specs.Data.{null}
+use Rattle.serde_json.specs.Data.{Data, null}
 use Rattle.rpc_peer.specs.declared.message.Id.{Id}
 use Rattle.rpc_peer.specs.declared.message.Id.TheVariants.{Number, Text}
 use Rattle.rpc_peer.specs.OpenIds.{same_id}
 use Rattle.rpc_peer.specs.Said.{result, failure, IsId}
 use Rattle.session_law.specs.Lawful.{Lawful, IsFramed, IsRefused}
-use Rattle.session_law.specs.Methods.{Verdict, asking, opening, building, built, closing, refusal, initialize_result}
+use Rattle.session_law.specs.Methods.{Verdict, asking, opening, building, built, answering, closing, refusal, initialize_result}
 use Rattle.session_law.specs.Order.{Event, write}
+use Rattle.session_law.specs.Questions.{Question, IsAnswer}
 use Rattle.session_law.specs.Past.{Asked, WantedBy, active_as, space_in, open_after, force_after, closed_after, nulls_after, status_after, table_after}
 use Rattle.session_core.specs.Acting.{answer_unread, answered, paths_in}
-use Rattle.session_core.specs.Judging.{answer_to, code_of, message_of, Fits, IsPlanOf}
+use Rattle.session_core.specs.Judging.{answer_to, code_of, message_of, Fits, IsPlanOf, IsReply}
 use Rattle.session_core.specs.Plans.{Plan, build_in}
 use Rattle.session_core.specs.State.{Base, State, building_in, owed, workspace_need}
 use Rattle.session_core.specs.Standing.{Keeps, EachId, AreIn}
@@ -125,6 +126,47 @@ gives_closing id base status past o framed =
       };
     }
 
+-- a question about the workspace in force is answered
+gives_answer : (id : Id) (space : Space) (question : Question) (value : Data) (base : Base) (status : Option ℕ) (past : List Event) → IsAnswer space question value
+    → Owes base status (owed id (answering space question)) [] past → IsFramed (result (Some id) value) → Keeps false (idle base status) (write (result (Some id) value) ∷ past)
+gives_answer id space question value base status past answers o framed =
+    let same = same_id_refl id in
+    record {
+      lawful = record {
+        each = (
+          record {
+            framed = framed;
+            once = rw (o.requests_are, same);
+            exact = rw (o.requests_are, same) answers;
+            in_order = rw (o.requests_are) tt;
+            shows = rw (o.requests_are) tt;
+          },
+          o.lawful.each,
+        );
+      };
+      knows = λ _. record {
+        force_is = rw (o.requests_are, same) o.force_is;
+        closed_is = rw (o.closed_is, o.requests_are, same) (same_or base.closed);
+        table_is = o.table_is;
+        status_is = o.status_is;
+        requests_are = rw (o.requests_are, same);
+        nulls_are = o.nulls_are;
+        ids = tt;
+        need_is = tt;
+        plan_is = tt;
+      };
+    }
+
+pub gives_result : (id : Id) (v : Verdict) (value : Data) (base : Base) (status : Option ℕ) (past : List Event) → IsReply v value → Owes base status (owed id v) [] past
+    → IsFramed (result (Some id) value) → Keeps false (idle base status) (write (result (Some id) value) ∷ past)
+gives_result id (asking root) value base status past answers o framed = absurd answers
+gives_result id (opening root file) value base status past answers o framed = absurd answers
+gives_result id (building build) value base status past answers o framed = absurd answers
+gives_result id (built build entries) value base status past answers o framed = absurd answers
+gives_result id (answering space question) value base status past answers o framed = gives_answer id space question value base status past answers o framed
+gives_result id closing value base status past answers o framed = absurd answers
+gives_result id (refusal code text) value base status past answers o framed = absurd answers
+
 -- a request is owed a refusal, and is given it
 gives_refusal : (id : Id) (v : Verdict) (code : ℤ) (text : List ℕ) (base : Base) (status : Option ℕ) (past : List Event) → active_as id v ≡ None → Owes base status (owed id v) [] past
     → IsRefused (Some v) code text → IsFramed (failure (Some id) code text) → Keeps false (idle base status) (write (failure (Some id) code text) ∷ past)
@@ -166,6 +208,7 @@ gives id (opening root file) (answers.Refused reason) base status past fits o fr
     gives_refusal id (opening root file) (code_of reason) (message_of reason) base status past refl o fits framed
 gives id (building build) answer base status past fits o framed = absurd fits
 gives id (built build entries) answer base status past fits o framed = absurd fits
+gives id (answering space question) answer base status past fits o framed = absurd fits
 gives id closing (answers.Opening space) base status past fits o framed = absurd fits
 gives id closing answers.Closing base status past fits o framed = gives_closing id base status past o framed
 gives id closing (answers.Refused reason) base status past fits o framed = absurd fits

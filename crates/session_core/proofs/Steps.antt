@@ -5,6 +5,7 @@ use Rattle.rpc_peer.specs.declared.message.Id.{Id}
 use Rattle.rpc_peer.specs.declared.message.Message.{Message}
 use Rattle.rpc_peer.specs.Meaning.{meaning, parse_error}
 use Rattle.rpc_peer.specs.Said.{Said, said, request, notification, result, failure, IsId}
+use Rattle.serde_json.specs.View.{view}
 use Rattle.session_law.specs.declared.InputEnd.TheVariants.{Border, Damaged, Failed}
 use Rattle.session_law.specs.declared.InputEnd.{InputEnd}
 use Rattle.session_law.specs.Builds.{ArePlaces, CleanBuild, build_answer, build_said, table_with}
@@ -28,8 +29,8 @@ use Rattle.session_core.specs.declared.verdicts.Owed.TheVariants as owing
 use Rattle.session_core.specs.declared.verdicts.Reason.TheVariants as reasons
 use Rattle.target_graph.specs.Workspace.{Space}
 use Rattle.task_stream.specs.Showing.{shows}
-use Rattle.session_core.proofs.Framing.{framed_answer, framed_build}
-use Rattle.session_core.proofs.Owing.{Owes, idle, gives, gives_unread, gives_none, keeps_asking, keeps_building}
+use Rattle.session_core.proofs.Framing.{framed_answer, framed_build, framed_result}
+use Rattle.session_core.proofs.Owing.{Owes, idle, gives, gives_unread, gives_none, gives_result, keeps_asking, keeps_building}
 use Rattle.session_core.proofs.Publications.{gives_build}
 use Rattle.session_core.proofs.StandingLaws.{before}
 
@@ -117,6 +118,10 @@ module _ (old new : Core) (order : List Event) (quiet : old.out.items ≡ []) (a
         steps old new _ [] (event ∷ order) acts quiet alive
         (subst (λ state. Keeps false (record state { awaiting = Some (awaits.Building id plan); need = Some (needs.Tree (paths_in plan)) }) (event ∷ order)) (sym state_is)
         (keeps_building id plan v base None (event ∷ order) named judged owes))
+    by_owed event id v (owing.Result value) judged short named owes acts =
+        steps old new _ (result (Some id) (view value) ∷ []) (event ∷ order) acts quiet alive
+        (subst (λ state. Keeps false state (write (result (Some id) (view value)) ∷ event ∷ order)) (sym state_is)
+        (gives_result id v (view value) base None (event ∷ order) judged owes (framed_result id (view value) named short)))
     by_owed event id v (owing.Answer answer) judged short named owes acts =
         steps old new _ (answer_to id answer ∷ []) (event ∷ order) acts quiet alive
         (subst (λ state. Keeps false (answered state answer) (write (answer_to id answer) ∷ event ∷ order)) (sym state_is)

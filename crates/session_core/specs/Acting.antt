@@ -1,16 +1,20 @@
 -- What one step of a core does to what it keeps.
 use Rattle.std.specs.Prelude.{◌≡◌, ◌++◌, ℕ, ℤ, List, [], ◌∷◌, map, codes, Bool, true, Option, Some, None, if◌then◌else◌, Result, Ok, Err}
 use Rattle.std.specs.Option.{IfSome}
+use Rattle.std.specs.Str.{bytes_eq}
 use Rattle.bsp_records.specs.Shapes.{IsTextWithin}
 use Rattle.bsp_records.specs.declared.kinds.TheConstants.{ORIGIN_LIMIT}
 use Rattle.ob_text.specs.declared.held.Snapshot.{Snapshot}
 use Rattle.rpc_peer.specs.declared.message.Id.{Id}
 use Rattle.rpc_peer.specs.Said.{Said, said, request, notification, result, failure, IsId}
 use Rattle.rpc_peer.specs.Meaning.{parse_error}
+use Rattle.serde_json.specs.Data.{Data}
+use Rattle.serde_json.specs.View.{view}
 use Rattle.session_build.specs.Publishing.{IsPublished}
-use Rattle.session_law.specs.Builds.{build_said, each_once}
+use Rattle.session_law.specs.Builds.{build_said}
 use Rattle.session_law.specs.Lawful.{IsFramed}
 use Rattle.session_law.specs.Methods.{Verdict, asking, unreadable, verdict, is_named, null_message}
+use Rattle.session_law.specs.Once.{each_once}
 use Rattle.session_law.specs.Order.{Entries}
 use Rattle.session_law.specs.Past.{handed_over}
 use Rattle.session_law.specs.declared.InputEnd.{InputEnd}
@@ -56,17 +60,22 @@ abbrev pub Asks : Core → Core → Id → List ℕ → Type 0
 Asks old new id root = Steps old new (record (state_of old) { awaiting = Some (awaits.Opening id root); need = Some workspace_need }) []
 
 abbrev pub paths_in : Plan → List (List ℕ)
-paths_in plan = each_once (map (λ place. place.path) plan.places)
+paths_in plan = each_once bytes_eq (map (λ place. place.path) plan.places)
 
 -- the core keeps a build until it has its documents
 abbrev pub Plans : Core → Core → Id → Plan → Type 0
 Plans old new id plan =
     Steps old new (record (state_of old) { awaiting = Some (awaits.Building id plan); need = Some (needs.Tree (paths_in plan)) }) []
 
+-- the core gives a request this result, and keeps what it is
+abbrev pub Tells : Core → Core → Id → Data → Type 0
+Tells old new id value = Steps old new (state_of old) (result (Some id) value ∷ [])
+
 -- the core gives a request what it is owed, or keeps it
 abbrev pub Serves : Core → Core → Id → Owed → Type 0
 Serves old new id (owing.Asking root) = Asks old new id root
 Serves old new id (owing.Building plan) = Plans old new id plan
+Serves old new id (owing.Result value) = Tells old new id (view value)
 Serves old new id (owing.Answer answer) = Answers old new id answer
 
 -- the core answers this code with the id null

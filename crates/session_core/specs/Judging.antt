@@ -1,17 +1,21 @@
 -- What the core finds a request to be owed, in the words of the law.
-use Rattle.std.specs.Prelude.{◌≡◌, ◌≤◌, ◌++◌, ℕ, ℤ, List, length, codes, Option, Some, Result, Ok, Err, Vec}
+use Rattle.std.specs.Prelude.{◌≡◌, ◌≤◌, ◌++◌, ℕ, ℤ, List, length, codes, false, Option, Some, Result, Ok, Err, Vec}
 use Rattle.std.specs.declared.alloc.Global.{Global}
 use Rattle.std.specs.Str.{IsAscii}
 use Rattle.rpc_peer.specs.Meaning.{invalid_request}
 use Rattle.rpc_peer.specs.Said.{Said, result, failure}
 use Rattle.rpc_peer.specs.declared.message.Id.{Id}
-use Rattle.serde_json.specs.Data.{null}
+use Rattle.bsp_records.specs.ShortAnswers.{answer_limit}
+use Rattle.serde_json.specs.Data.{Data, null}
+use Rattle.serde_json.specs.View.{view}
+use Rattle.serde_json.specs.Written.{compact_text, has_float}
 use Rattle.session_law.specs.Builds.{ArePlaces}
 use Rattle.session_law.specs.Lawful.{IsNoWorkspace}
+use Rattle.session_law.specs.Questions.{IsAnswer}
 use Rattle.session_core.specs.Plans.{Plan, build_in}
 use Rattle.target_graph.specs.Faults.{Accepted}
 use Rattle.target_graph.specs.Workspace.{Space}
-use Rattle.session_law.specs.Methods.{Verdict, asking, opening, building, closing, refusal, Found, all_found, unknown_at, refused_message, initialize_result, method_not_found, sources_unreadable, not_initialized, invalid_params, workspace_refused}
+use Rattle.session_law.specs.Methods.{Verdict, asking, opening, building, answering, closing, refusal, Found, all_found, unknown_at, refused_message, initialize_result, method_not_found, sources_unreadable, not_initialized, invalid_params, workspace_refused}
 use Rattle.session_core.specs.declared.verdicts.Answer.{Answer}
 use Rattle.session_core.specs.declared.verdicts.Answer.TheVariants as answers
 use Rattle.session_core.specs.declared.verdicts.Owed.{Owed}
@@ -51,10 +55,16 @@ pub record IsPlanOf (force : Option Space) (v : Verdict) (plan : Plan) : Type 0 
   pub is : v ≡ building (build_in space plan)
   pub places : ArePlaces (build_in space plan) plan.places
 
+-- the request is a question, and this answers it
+abbrev pub IsReply : Verdict → Data → Type 0
+IsReply (answering space question) value = IsAnswer space question value
+IsReply v value = ⊥
+
 -- the core gives a request what it is owed, or keeps it
 abbrev pub Judges : Option Space → Verdict → Owed → Type 0
 Judges force v (owing.Asking root) = v ≡ asking root
 Judges force v (owing.Building plan) = IsPlanOf force v plan
+Judges force v (owing.Result value) = IsReply v (view value)
 Judges force v (owing.Answer answer) = Fits v answer
 
 -- the targets that were found, or the place of the first that wasn't
@@ -77,9 +87,15 @@ IsSaid (answers.Refused (reasons.BadParams path)) = IsShort path
 IsSaid (answers.Refused (reasons.Workspace fault)) = IsShort fault.name
 IsSaid answer = Unit {0}
 
+-- a result is printed in one way alone, and in a part of a frame
+pub record IsPrinted (value : Data) : Type 0 where
+  pub exact : has_float value ≡ false
+  pub short : length (compact_text value) ≤ answer_limit
+
 abbrev pub IsSaidOwed : Owed → Type 0
 IsSaidOwed (owing.Asking root) = Unit {0}
 IsSaidOwed (owing.Building plan) = Unit {0}
+IsSaidOwed (owing.Result value) = IsPrinted (view value)
 IsSaidOwed (owing.Answer answer) = IsSaid answer
 
 -- ---- answers as messages

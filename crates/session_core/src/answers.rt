@@ -84,7 +84,8 @@ fn unread_message(code: i32) -> &'static [u8]
     }
 }
 
-fn success(id: Id, value: Value) -> Message
+/// The response that gives a request this result.
+pub fn success(id: Id, value: Value) -> Message
     ensures { said result ≡ answers (Some id) (view value) }
 {
     Message::Response {

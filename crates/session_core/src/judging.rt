@@ -1,9 +1,11 @@
 ghost use Rattle.std.specs.Prelude.{◌≡◌, ◌<◌, length, None, Some, IfOk, IfSome, option_map};
 ghost use Rattle.std.specs.List.{All};
+ghost use Rattle.std.specs.Str.{IsUtf8};
 ghost use Rattle.bsp_records.specs.Params.{IsTarget, HasCompileTexts};
 ghost use Rattle.bsp_records.specs.Shapes.{IsTextWithin};
 ghost use Rattle.serde_json.specs.View.{view};
-ghost use Rattle.session_law.specs.Methods.{initialize_verdict, asked_with, opening, verdict, served_verdict, compile_verdict, compiled, found_from, target_path};
+ghost use Rattle.session_law.specs.Methods.{initialize_verdict, asked_with, opening, answering, verdict, served_verdict, sources_verdict, sourced, inverse_verdict, compile_verdict, compiled, found_from, target_path};
+ghost use Rattle.session_law.specs.Questions.{inverse_of};
 ghost use Rattle.session_core.specs.Judging.{Judges, Fits, IsFoundAs, IsSaid, IsSaidOwed};
 ghost use Rattle.target_graph.specs.Address.{root_at};
 ghost use Rattle.target_graph.specs.Workspace.{named};
@@ -12,11 +14,13 @@ ghost use Rattle.target_graph.specs.declared.root.TheConstants.{ROOT_LIMIT};
 use crate::planned::Planned;
 use crate::verdicts::{Answer, Owed, Reason};
 use bsp_records::{
-    BadParams, BuildTargetIdentifier, CompileParams, read_compile_params, read_initialize_params,
+    BadParams, BuildTargetIdentifier, CompileParams, SourcesParams, read_compile_params,
+    read_initialize_params, read_inverse_sources_params, read_sources_params,
 };
 use itoa::Buffer;
 use ob_text::{Held, Items, NoMemory, Text};
 use serde_json::Value;
+use session_answers::{inverse_answer, sources_answer, targets_answer};
 use session_build::places_of;
 use std::alloc::Global;
 use target_graph::{Root, RootFault, Workspace, WorkspaceRefusal, root_of};
@@ -102,11 +106,81 @@ fn judge_served(
         Ok(refused(Reason::Invalid))
     } else if b"build/shutdown".as_slice() == method {
         Ok(Owed::Answer(Answer::Closing))
+    } else if b"workspace/buildTargets".as_slice() == method {
+        Ok(Owed::Result(targets_answer(alloc, workspace)?))
+    } else if b"buildTarget/sources".as_slice() == method {
+        judge_sources(alloc, params, workspace)
+    } else if b"buildTarget/inverseSources".as_slice() == method {
+        judge_inverse(alloc, params, workspace)
     } else if b"buildTarget/compile".as_slice() == method {
         judge_compile(alloc, params, workspace)
     } else {
         Ok(refused(Reason::Unknown))
     }
+}
+
+fn judge_sources(
+    alloc: Global,
+    params: &Option<Value>,
+    workspace: &Workspace,
+) -> Result<Owed, NoMemory>
+    ensures judged { IfOk result (Judges (Some workspace.now)
+        (sources_verdict workspace.now (option_map view params.now))) }
+    ensures short { IfOk result IsSaidOwed }
+{
+    match params {
+        None => bad_at(alloc, b"params"),
+        Some(params) => match read_sources_params(alloc, params) {
+            Ok(params) => judge_listed(alloc, &params, workspace),
+            Err(BadParams::At(path)) => Ok(refused(Reason::BadParams(path))),
+            Err(BadParams::NoMemory) => Err(NoMemory),
+        },
+    }
+}
+
+fn judge_listed(
+    alloc: Global,
+    params: &SourcesParams,
+    workspace: &Workspace,
+) -> Result<Owed, NoMemory>
+    requires { All IsTarget params.now.targets }
+    ensures judged { IfOk result (Judges (Some workspace.now)
+        (sourced workspace.now (found_from workspace.now 0 params.now.targets))) }
+    ensures short { IfOk result IsSaidOwed }
+{
+    match find_targets(alloc, params.targets.as_slice(), workspace)? {
+        Ok(asked) => Ok(Owed::Result(sources_answer(alloc, workspace, asked.as_slice())?)),
+        Err(place) => unknown_target(alloc, place),
+    }
+}
+
+fn judge_inverse(
+    alloc: Global,
+    params: &Option<Value>,
+    workspace: &Workspace,
+) -> Result<Owed, NoMemory>
+    ensures judged { IfOk result (Judges (Some workspace.now)
+        (inverse_verdict workspace.now (option_map view params.now))) }
+    ensures short { IfOk result IsSaidOwed }
+{
+    match params {
+        None => bad_at(alloc, b"params"),
+        Some(params) => match read_inverse_sources_params(alloc, params) {
+            Ok(params) => judge_document(alloc, &params.text_document.uri, workspace),
+            Err(BadParams::At(path)) => Ok(refused(Reason::BadParams(path))),
+            Err(BadParams::NoMemory) => Err(NoMemory),
+        },
+    }
+}
+
+fn judge_document(alloc: Global, uri: &Text, workspace: &Workspace) -> Result<Owed, NoMemory>
+    requires { IsUtf8 uri.now }
+    ensures judged { IfOk result (Judges (Some workspace.now)
+        (answering workspace.now (inverse_of uri.now))) }
+    ensures short { IfOk result IsSaidOwed }
+{
+    let uri = std::str::from_utf8(uri.as_slice()).unwrap();
+    Ok(Owed::Result(inverse_answer(alloc, workspace, uri)?))
 }
 
 fn judge_compile(

@@ -4,7 +4,7 @@ ghost use Rattle.session_law.specs.Past.{handed_over};
 ghost use Rattle.session_core.specs.Judging.{Fits, IsSaid};
 ghost use Rattle.session_core.specs.State.{handed_of};
 
-use crate::answers::{PARSE_ERROR, compiled, response, unread_answer};
+use crate::answers::{PARSE_ERROR, compiled, response, success, unread_answer};
 use crate::awaiting::{Awaiting, Need, workspace_path, workspace_paths};
 use crate::judging::{judge, judge_workspace};
 use crate::planned::Planned;
@@ -49,7 +49,7 @@ impl Core {
     ghost use Rattle.session_law.specs.Lawful.{IsFramed};
     ghost use Rattle.session_law.specs.Methods.{asking, unreadable, verdict};
     ghost use Rattle.session_law.specs.Order.{Event, take, ends, hand, write};
-    ghost use Rattle.session_core.specs.Acting.{Acts, ActsOnHand, Answers, AnswersUnread, Asks, Builds, BuildsOn, Ends, Plans, ServesAs, AnswersAs, Steps, status_by};
+    ghost use Rattle.session_core.specs.Acting.{Acts, ActsOnHand, Answers, AnswersUnread, Asks, Builds, BuildsOn, Ends, Plans, ServesAs, AnswersAs, Steps, Tells, status_by};
     ghost use Rattle.session_core.specs.Reading.{AreReadable};
     ghost use Rattle.session_core.specs.Standing.{StandsFor, Awaits, Suits, IsFree, NeedsNothing, NeedsWhatItAwaits, IsQuiet, IsAlive, status_of, left_to_write};
     ghost use Rattle.session_core.specs.State.{handed_of, paths_of, state_of};
@@ -214,8 +214,19 @@ impl Core {
         match judge(self.alloc, method, params, &self.workspace, self.closed)? {
             Owed::Asking(root) => self.ask(id, root),
             Owed::Building(planned) => self.plan(id, planned),
+            Owed::Result(value) => self.tell(id, value),
             Owed::Answer(answer) => self.answer(id, answer),
         }
+    }
+
+    // Gives a request a result that changes nothing.
+    fn tell(&mut self, id: Id, value: Value) -> Result<(), NoMemory>
+        ensures ok { OnOk result (Tells self.old self.new id (view value)) }
+        ensures alive { self.new.dead ≡ self.old.dead }
+        ensures err { OnErr result (self.new.out.items ≡ self.old.out.items) }
+    {
+        self.out.push_back(success(id, value))?;
+        Ok(())
     }
 
     // Keeps an initialize until it has the workspace file.

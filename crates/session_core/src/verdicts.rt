@@ -1,5 +1,6 @@
 use crate::planned::Planned;
 use ob_text::Text;
+use serde_json::Value;
 use target_graph::{Root, Workspace, WorkspaceFault};
 
 /// What a request is owed, judged as it is taken.
@@ -9,6 +10,8 @@ pub enum Owed {
     Asking(Root),
     /// It is a compile, and wants its documents first.
     Building(Planned),
+    /// It is a question about the workspace in force, and owed this result.
+    Result(Value),
     /// It is owed this answer.
     Answer(Answer),
 }

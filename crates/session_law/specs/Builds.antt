@@ -1,5 +1,5 @@
 -- A build: the documents that it is of, what the clean build finds in them, and what is written of that.
-use Rattle.std.specs.Prelude.{◌≡◌, ◌≢◌, ◌==◌, ◌++◌, ℕ, List, [], ◌∷◌, map, filter, codes, Bool, true, false, Option, Some, None, unwrap_or, if◌then◌else◌}
+use Rattle.std.specs.Prelude.{◌≡◌, ◌==◌, ◌++◌, ℕ, List, [], ◌∷◌, map, filter, codes, Bool, true, false, Option, Some, None, unwrap_or, if◌then◌else◌}
 use Rattle.std.specs.List.{All, list_any, fold}
 use Rattle.std.specs.Str.{bytes_eq}
 use Rattle.ob_text.specs.Code.{severity_of}
@@ -20,12 +20,12 @@ use Rattle.bsp_records.specs.declared.results.StatusCode.{StatusCode}
 use Rattle.bsp_records.specs.declared.results.StatusCode.TheVariants as statuses
 use Rattle.rpc_peer.specs.Said.{Said, request, notification, result, failure}
 use Rattle.rpc_peer.specs.declared.message.Id.{Id}
-use Rattle.serde_json.specs.Data.{Data}
 use Rattle.target_graph.specs.Address.{document_address}
 use Rattle.target_graph.specs.Workspace.{Space, IsClosure, pairs_of, id_of}
 use Rattle.target_graph.specs.declared.target.Pair.{Pair}
 use Rattle.task_stream.specs.Pieces.{pieces}
 use Rattle.session_law.specs.Methods.{Build, is_named}
+use Rattle.session_law.specs.Once.{each_once}
 use Rattle.session_law.specs.Order.{Entries}
 use Rattle.session_law.specs.declared.Place.{Place}
 
@@ -48,18 +48,11 @@ pub record ArePlaces (build : Build) (places : List Place) : Type 0 where
   pub closed : IsClosure build.space.targets build.asked closure
   pub are : places ≡ map (place_of build.space) (filter (is_among closure) (pairs_of build.space.targets))
 
-abbrev pub with_path : List (List ℕ) → List ℕ → List (List ℕ)
-with_path paths path = if list_any (bytes_eq path) paths then paths else paths ++ path ∷ []
-
--- each path once, at its first place
-abbrev pub each_once : List (List ℕ) → List (List ℕ)
-each_once paths = fold with_path [] paths
-
--- the paths that a build wants
+-- the paths that a build wants, each once
 pub record WantsPaths (build : Build) (paths : List (List ℕ)) : Type 0 where
   pub places : List Place
   pub of_build : ArePlaces build places
-  pub are : paths ≡ each_once (map (λ place. place.path) places)
+  pub are : paths ≡ each_once bytes_eq (map (λ place. place.path) places)
 
 -- ---- what the clean build finds in what was handed out
 

@@ -11,11 +11,12 @@ use Rattle.rpc_frame.specs.declared.TheConstants.{CONTENT_LIMIT}
 use Rattle.rpc_peer.specs.Said.{Said, request, notification, result, failure, HasTexts, said_data, body_of}
 use Rattle.session_law.specs.declared.InputEnd.{InputEnd}
 use Rattle.session_law.specs.Builds.{Finding, CleanBuild, PublishesAll, Shows, build_answer}
-use Rattle.session_law.specs.Methods.{Build, Verdict, opening, built, closing, refusal, is_named, workspace_refused, refused_message, initialize_result, null_message}
+use Rattle.session_law.specs.Methods.{Verdict, opening, built, answering, closing, refusal, is_named, workspace_refused, refused_message, initialize_result, null_message}
 use Rattle.target_graph.specs.Faults.{Accepted, Refused}
 use Rattle.target_graph.specs.Workspace.{Space}
 use Rattle.target_graph.specs.declared.fault.FaultKind.{FaultKind}
 use Rattle.session_law.specs.Order.{Entries, Event, take, ends, hand, write}
+use Rattle.session_law.specs.Questions.{IsAnswer}
 use Rattle.session_law.specs.Past.{Active, Asked, WantedBy, active_of, is_open, owed_to, open_after, nulls_after, status_after, table_after, table_at_hand, written_since}
 
 -- the bytes of a message on the output
@@ -70,6 +71,7 @@ pub record IsNoWorkspace (file : Held) (code : ℤ) (text : List ℕ) : Type 0 w
 
 abbrev pub IsGranted : Option Verdict → Data → Type 0
 IsGranted (Some (opening root file)) value = IsWorkspace root file × (value ≡ initialize_result)
+IsGranted (Some (answering space question)) value = IsAnswer space question value
 IsGranted (Some closing) value = value ≡ null
 IsGranted (Some (built build entries)) value = Unit {0}
 IsGranted _ value = ⊥

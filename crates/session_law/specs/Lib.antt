@@ -1,4 +1,6 @@
 pub mod Order
+pub mod Once
+pub mod Questions
 pub mod Methods
 pub mod Builds
 pub mod Past

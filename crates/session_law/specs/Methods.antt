@@ -1,9 +1,9 @@
 -- The methods of the Build Server Protocol 2.2 that the session answers, and what it answers them.
-use Rattle.std.specs.Prelude.{◌==◌, ◌+◌, ℕ, ℤ, negsuc, List, [], ◌∷◌, ◌++◌, codes, decimal, Bool, true, Option, Some, None, is_some, option_map, option_and_then, if◌then◌else◌}
+use Rattle.std.specs.Prelude.{◌==◌, ◌+◌, ℕ, ℤ, negsuc, List, [], ◌∷◌, ◌++◌, codes, decimal, Bool, true, Option, Some, None, is_some, if◌then◌else◌}
 use Rattle.std.specs.Cmp.Lexicographic.{pointwise}
 use Rattle.std.specs.Ordering.{int_eq}
 use Rattle.ob_text.specs.declared.held.Held.{Held}
-use Rattle.bsp_records.specs.Params.{initialize_params, initialize_params_in, build_params, compile_params_in}
+use Rattle.bsp_records.specs.Params.{initialize_params, initialize_params_in, targets_params, sources_params_in, inverse_sources_params, inverse_sources_params_in, build_params, compile_params_in}
 use Rattle.bsp_records.specs.Shapes.{bad_params}
 use Rattle.rpc_peer.specs.Meaning.{invalid_request, parse_error}
 use Rattle.bsp_records.specs.declared.identifiers.BuildTargetIdentifier.{BuildTargetIdentifier}
@@ -12,6 +12,7 @@ use Rattle.target_graph.specs.Workspace.{Space, named}
 use Rattle.target_graph.specs.declared.fault.FaultKind.{FaultKind}
 use Rattle.target_graph.specs.declared.fault.FaultKind.TheVariants as kinds
 use Rattle.session_law.specs.Order.{Entries}
+use Rattle.session_law.specs.Questions.{Question, all_targets, sources_of, inverse_of}
 use Rattle.serde_json.specs.Data.{Data, boolean, string, array, object, item, no_items, member, no_members}
 
 abbrev pub is_named : List ℕ → List ℕ → Bool
@@ -102,6 +103,8 @@ pub data Verdict : Type 0 where
   building : Build → Verdict
   -- the same, once they were handed out
   built : Build → Entries → Verdict
+  -- a question about this workspace
+  answering : Space → Question → Verdict
   -- a shutdown that closes the session
   closing : Verdict
   -- a refusal with this code and message
@@ -135,7 +138,7 @@ abbrev pub initialize_verdict : Option Data → Verdict
 initialize_verdict None = bad_at (codes "params")
 initialize_verdict (Some d) = asked_with (bad_params initialize_params d) (root_at (initialize_params_in d).root_uri)
 
--- ---- compile
+-- ---- lists of targets
 
 -- the path of the target that stands at this place in a list
 unfoldable pub target_path : ℕ → List ℕ
@@ -155,6 +158,8 @@ abbrev pub found_from : Space → ℕ → List BuildTargetIdentifier → Found
 found_from space place [] = all_found []
 found_from space place (id ∷ ids) = found_first (named space id.uri) place (found_from space (place + 1) ids)
 
+-- ---- compile
+
 abbrev pub compiled : Space → Option (List ℕ) → Found → Verdict
 compiled space origin (all_found targets) = building (record { space = space; asked = targets; origin = origin })
 compiled space origin (unknown_at place) = bad_at (target_path place)
@@ -167,6 +172,28 @@ abbrev pub compile_verdict : Space → Option Data → Verdict
 compile_verdict space None = bad_at (codes "params")
 compile_verdict space (Some d) = compiled_with space (bad_params build_params d) d
 
+-- ---- questions about the workspace in force
+
+abbrev pub sourced : Space → Found → Verdict
+sourced space (all_found targets) = answering space (sources_of targets)
+sourced space (unknown_at place) = bad_at (target_path place)
+
+abbrev pub sourced_with : Space → Option (List ℕ) → Data → Verdict
+sourced_with space (Some path) d = bad_at path
+sourced_with space None d = sourced space (found_from space 0 (sources_params_in d).targets)
+
+abbrev pub sources_verdict : Space → Option Data → Verdict
+sources_verdict space None = bad_at (codes "params")
+sources_verdict space (Some d) = sourced_with space (bad_params targets_params d) d
+
+abbrev pub inverse_with : Space → Option (List ℕ) → Data → Verdict
+inverse_with space (Some path) d = bad_at path
+inverse_with space None d = answering space (inverse_of (inverse_sources_params_in d).text_document.uri)
+
+abbrev pub inverse_verdict : Space → Option Data → Verdict
+inverse_verdict space None = bad_at (codes "params")
+inverse_verdict space (Some d) = inverse_with space (bad_params inverse_sources_params d) d
+
 -- ---- any request
 
 -- behind an answered shutdown nothing is served, and else the method has to be known
@@ -174,8 +201,11 @@ abbrev pub served_verdict : List ℕ → Option Data → Space → Bool → Verd
 served_verdict method params space closed =
     if closed then invalid
     else (if is_named (codes "build/shutdown") method then closing
+    else (if is_named (codes "workspace/buildTargets") method then answering space all_targets
+    else (if is_named (codes "buildTarget/sources") method then sources_verdict space params
+    else (if is_named (codes "buildTarget/inverseSources") method then inverse_verdict space params
     else (if is_named (codes "buildTarget/compile") method then compile_verdict space params
-    else refusal method_not_found (codes "method not found")))
+    else refusal method_not_found (codes "method not found"))))))
 
 abbrev pub verdict_in : Option Space → List ℕ → Option Data → Bool → Verdict
 verdict_in None method params closed = refusal not_initialized (codes "server not initialized")

@@ -1,6 +1,5 @@
 -- What a session owes, has opened and has ended with, as functions of what happened in it.
 use Rattle.std.specs.Prelude.{◌≡◌, ◌||◌, ℕ, ℤ, List, [], ◌∷◌, ◌++◌, codes, Bool, true, false, Option, Some, None, is_some, Result, Ok, Err, drop, if◌then◌else◌}
-use Rattle.std.specs.Option.{option_or}
 use Rattle.bsp_records.specs.Table.{Table, nothing_shown}
 use Rattle.ob_text.specs.declared.held.Held.{Held}
 use Rattle.rpc_peer.specs.declared.message.Id.{Id}
@@ -12,7 +11,7 @@ use Rattle.session_law.specs.declared.InputEnd.TheVariants.{Border, Damaged, Fai
 use Rattle.target_graph.specs.Faults.{targets_in}
 use Rattle.target_graph.specs.Workspace.{Space}
 use Rattle.session_law.specs.Builds.{WantsPaths, handed_at, shown_by}
-use Rattle.session_law.specs.Methods.{Build, Verdict, asking, opening, building, built, closing, refusal, verdict, unreadable, workspace_path, is_named}
+use Rattle.session_law.specs.Methods.{Build, Verdict, asking, opening, building, built, answering, closing, refusal, verdict, unreadable, workspace_path, is_named}
 use Rattle.session_law.specs.Order.{Entries, Event, take, ends, hand, write}
 
 -- A request that is open: it was taken, wasn't refused with the id null, and has no response yet.
@@ -39,6 +38,7 @@ Wants (asking root) paths = paths ≡ workspace_path ∷ []
 Wants (opening root file) paths = ⊥
 Wants (building build) paths = WantsPaths build paths
 Wants (built build entries) paths = ⊥
+Wants (answering space question) paths = ⊥
 Wants closing paths = ⊥
 Wants (refusal code text) paths = ⊥
 
@@ -76,6 +76,7 @@ handed_over None (building build) = unreadable
 handed_over (Some entries) (building build) = built build entries
 handed_over handed (opening root file) = opening root file
 handed_over handed (built build entries) = built build entries
+handed_over handed (answering space question) = answering space question
 handed_over handed closing = closing
 handed_over handed (refusal code text) = refusal code text
 
@@ -202,6 +203,7 @@ active_as id (built build entries) = Some (record { id = id; build = build; entr
 active_as id (asking root) = None
 active_as id (opening root file) = None
 active_as id (building build) = None
+active_as id (answering space question) = None
 active_as id closing = None
 active_as id (refusal code text) = None
 

@@ -1,13 +1,18 @@
--- Names, stems, paths of fields and addresses are ASCII and short.
-use Rattle.std.proofs.Common.{◌≡◌, ℕ, ◌+◌, ◌-◌, ◌<◌, ◌≤◌, ◌^◌, ◌&&◌, Bool, true, false, not, cond, List, [], ◌∷◌, ◌++◌, length, drop, codes, decimal, eqb, leb, ltb, refl, ap, ◌∙◌, arith}
-use Rattle.std.specs.List.{list_all, slice_split, onto_first, position_or_len, suffix_len}
-use Rattle.std.specs.Str.{IsAscii, bytes_eq}
-use Rattle.std.proofs.lemmas.Bool.{and_parts, leb-true, ltb-true, eqb-true}
+-- Names, stems, paths of fields and addresses are printing ASCII characters without blanks, and short.
+use Rattle.std.proofs.Common.{◌≡◌, ℕ, ◌+◌, ◌-◌, ◌<◌, ◌≤◌, ◌^◌, ◌&&◌, Bool, true, false, not, cond, List, [], ◌∷◌, ◌++◌, length, take, drop, codes, decimal, eqb, leb, refl, ap, ◌∙◌, arith}
+use Rattle.std.specs.Char.{is_ascii_graphic}
+use Rattle.std.specs.List.{AllPass, list_all, slice_split, onto_first, position_or_len, suffix_len}
+use Rattle.std.specs.Str.{bytes_eq}
+use Rattle.std.specs.Str.Parse.{AllDigits}
+use Rattle.std.proofs.lemmas.Bool.{and_from, and_parts, leb-true, eqb-true}
 use Rattle.std.proofs.lemmas.Bool.Decides.{nat_tests}
-use Rattle.std.proofs.lemmas.Fmt.{length-decimal-le, IsAscii-decimal}
+use Rattle.std.proofs.lemmas.Fmt.{length-decimal-le, decimal_is_IsNumeral}
 use Rattle.std.proofs.lemmas.List.{length-append, length-take, length-drop}
-use Rattle.std.proofs.lemmas.Str.{IsAscii-take, IsAscii-drop, IsAscii-append}
-use Rattle.std.proofs.lemmas.Str.Ascii.{IsAscii-nil, IsAscii-cons}
+use Rattle.std.proofs.lemmas.List.Elements.{All-take, All-drop, All-weaker}
+use Rattle.std.proofs.lemmas.List.Folds.{list_all-append}
+use Rattle.std.proofs.lemmas.List.Sums.{AllPass-from_list_all, list_all-from_AllPass}
+use Rattle.std.proofs.lemmas.Str.Ascii.{IsAscii-from_all}
+use Rattle.std.proofs.lemmas.Str.Parse.{digit_from_value}
 use Rattle.target_graph.specs.declared.fields.Part.{Part}
 use Rattle.target_graph.specs.declared.fields.Part.TheVariants as parts
 use Rattle.target_graph.specs.declared.names.TheConstants.{NAME_LIMIT}
@@ -19,31 +24,33 @@ use Rattle.target_graph.specs.Root.{IsRoot}
 
 -- ---- plain texts, one behind another
 
-pub plain_within : (a b : ℕ) (text : List ℕ) → a ≤ b → IsPlain a text → IsPlain b text
-plain_within a b text h p = record { ascii = p.ascii; short = (let s = p.short in omega arith) }
+-- bytes that pass a test pass one that asks less
+all_weaker : (p q : ℕ → Bool) → ((b : ℕ) → p b ≡ true → q b ≡ true) → (bs : List ℕ) → list_all p bs ≡ true → list_all q bs ≡ true
+all_weaker p q less bs e = list_all-from_AllPass q bs (All-weaker (λ b. p b ≡ true) (λ b. q b ≡ true) less bs (AllPass-from_list_all p bs e))
 
-pub plain_append : (a b : ℕ) (xs ys : List ℕ) → IsPlain a xs → IsPlain b ys → IsPlain (a + b) (xs ++ ys)
-plain_append a b xs ys p q = record {
-  ascii = IsAscii-append xs ys p.ascii q.ascii;
-  short = (let s = p.short in let t = q.short in omega (arith, length-append xs ys));
+graphic_ascii : (b : ℕ) → is_ascii_graphic b ≡ true → b < 128
+graphic_ascii b e = grind (arith, nat_tests)
+
+-- printing ASCII characters, no longer than the limit
+pub plain_bytes : (n : ℕ) (bs : List ℕ) → list_all is_ascii_graphic bs ≡ true → length bs ≤ n → IsPlain n bs
+plain_bytes n bs e h = record {
+  ascii = IsAscii-from_all bs (All-weaker (λ b. is_ascii_graphic b ≡ true) (λ b. b < 128) graphic_ascii bs (AllPass-from_list_all is_ascii_graphic bs e));
+  graphic = e;
+  short = h;
 }
 
-ascii_bytes : (bs : List ℕ) → list_all (λ b. ltb b 128) bs ≡ true → IsAscii bs
-ascii_bytes [] e = IsAscii-nil
-ascii_bytes (b ∷ bs) e = let h = and_parts (ltb b 128) (list_all (λ x. ltb x 128) bs) e in IsAscii-cons b bs (ltb-true b 128 h.0) (ascii_bytes bs h.1)
+pub plain_within : (a b : ℕ) (text : List ℕ) → a ≤ b → IsPlain a text → IsPlain b text
+plain_within a b text h p = plain_bytes b text p.graphic (let s = p.short in omega arith)
 
--- a text that is written out
-pub plain_bytes : (n : ℕ) (bs : List ℕ) → list_all (λ b. ltb b 128) bs ≡ true → length bs ≤ n → IsPlain n bs
-plain_bytes n bs e h = record { ascii = ascii_bytes bs e; short = h }
+pub plain_append : (a b : ℕ) (xs ys : List ℕ) → IsPlain a xs → IsPlain b ys → IsPlain (a + b) (xs ++ ys)
+plain_append a b xs ys p q =
+    plain_bytes (a + b) (xs ++ ys) (list_all-append is_ascii_graphic xs ys ∙ and_from _ _ p.graphic q.graphic)
+    (let s = p.short in let t = q.short in omega (arith, length-append xs ys))
 
 -- ---- names
 
-name_byte : (b : ℕ) → is_name_byte b ≡ true → b < 128
+name_byte : (b : ℕ) → is_name_byte b ≡ true → is_ascii_graphic b ≡ true
 name_byte b e = grind (arith, nat_tests)
-
-name_bytes : (text : List ℕ) → list_all is_name_byte text ≡ true → IsAscii text
-name_bytes [] e = IsAscii-nil
-name_bytes (b ∷ bs) e = let h = and_parts (is_name_byte b) (list_all is_name_byte bs) e in IsAscii-cons b bs (name_byte b h.0) (name_bytes bs h.1)
 
 word_bytes : (text : List ℕ) → is_word text ≡ true → list_all is_name_byte text ≡ true
 word_bytes text e = (and_parts (not (eqb (length text) 0)) (list_all is_name_byte text) e).1
@@ -52,7 +59,7 @@ pub plain_name : (text : List ℕ) → is_name text ≡ true → IsPlainName tex
 unfolding is_name
 plain_name text e =
     let h = and_parts (is_word text) (leb (length text) NAME_LIMIT) e in
-    record { ascii = name_bytes text (word_bytes text h.0); short = leb-true (length text) NAME_LIMIT h.1 }
+    plain_bytes NAME_LIMIT text (all_weaker is_name_byte is_ascii_graphic name_byte text (word_bytes text h.0)) (leb-true (length text) NAME_LIMIT h.1)
 
 -- ---- paths and stems
 
@@ -68,7 +75,7 @@ words_of (part ∷ parts) e =
     ap (λ b. b && are_words parts) (word_bytes part two.0) ∙ words_of parts h.1
 
 -- one byte before the first part
-onto_words : (b : ℕ) (parts : List (List ℕ)) → are_words (onto_first b parts) ≡ true → (b < 128) × (are_words parts ≡ true)
+onto_words : (b : ℕ) (parts : List (List ℕ)) → are_words (onto_first b parts) ≡ true → (is_ascii_graphic b ≡ true) × (are_words parts ≡ true)
 onto_words b [] e =
     let h = and_parts (list_all is_name_byte (b ∷ [])) true e in
     (name_byte b (and_parts (is_name_byte b) true h.0).0, refl)
@@ -77,23 +84,23 @@ onto_words b (part ∷ parts) e =
     let one = and_parts (is_name_byte b) (list_all is_name_byte part) h.0 in
     (name_byte b one.0, ap (λ x. x && are_words parts) one.1 ∙ h.1)
 
-split_ascii : (path : List ℕ) → are_words (slice_split (λ byte. eqb byte 47) path) ≡ true → IsAscii path
-split_ascii [] e = IsAscii-nil
-split_ascii (b ∷ bs) e = go (eqb b 47) refl e (split_ascii bs)
+split_graphic : (path : List ℕ) → are_words (slice_split (λ byte. eqb byte 47) path) ≡ true → list_all is_ascii_graphic path ≡ true
+split_graphic [] e = refl
+split_graphic (b ∷ bs) e = go (eqb b 47) refl e (split_graphic bs)
   where
     rest : List (List ℕ)
     rest = slice_split (λ byte. eqb byte 47) bs
 
-    go : (slash : Bool) → eqb b 47 ≡ slash → are_words (cond slash ([] ∷ rest) (onto_first b rest)) ≡ true → (are_words rest ≡ true → IsAscii bs) → IsAscii (b ∷ bs)
-    go true is h more = IsAscii-cons b bs (let e : b ≡ 47 = eqb-true b 47 is in omega arith) (more h)
-    go false is h more = let w = onto_words b rest h in IsAscii-cons b bs w.0 (more w.1)
+    go : (slash : Bool) → eqb b 47 ≡ slash → are_words (cond slash ([] ∷ rest) (onto_first b rest)) ≡ true → (are_words rest ≡ true → list_all is_ascii_graphic bs ≡ true) → list_all is_ascii_graphic (b ∷ bs) ≡ true
+    go true is h more = and_from _ _ (ap is_ascii_graphic (eqb-true b 47 is)) (more h)
+    go false is h more = let w = onto_words b rest h in and_from _ _ w.0 (more w.1)
 
 pub plain_path : (path : List ℕ) → is_path path ≡ true → IsPlainName path
 unfolding is_path
 plain_path path e =
     let h = and_parts (leb (length path) NAME_LIMIT && list_all is_segment (segments path)) (is_module_name (stem path)) e in
     let k = and_parts (leb (length path) NAME_LIMIT) (list_all is_segment (segments path)) h.0 in
-    record { ascii = split_ascii path (words_of (segments path) k.1); short = leb-true (length path) NAME_LIMIT k.0 }
+    plain_bytes NAME_LIMIT path (split_graphic path (words_of (segments path) k.1)) (leb-true (length path) NAME_LIMIT k.0)
 
 pub plain_stem : (path : List ℕ) → is_path path ≡ true → IsPlainName (stem path)
 unfolding stem
@@ -101,16 +108,20 @@ plain_stem path e =
     let p = plain_path path e in
     let start : ℕ = length path - suffix_len (λ byte. not (eqb byte 47)) path in
     let end : ℕ = position_or_len (λ byte. eqb byte 46) (drop start path) in
-    record {
-      ascii = IsAscii-take (drop start path) end (IsAscii-drop path start p.ascii);
-      short = (let s = p.short in omega (arith, length-take end (drop start path), length-drop start path));
-    }
+    let back : AllPass is_ascii_graphic (drop start path) = All-drop (λ b. is_ascii_graphic b ≡ true) start path (AllPass-from_list_all is_ascii_graphic path p.graphic) in
+    plain_bytes NAME_LIMIT (take end (drop start path))
+    (list_all-from_AllPass is_ascii_graphic (take end (drop start path)) (All-take (λ b. is_ascii_graphic b ≡ true) end (drop start path) back))
+    (let s = p.short in omega (arith, length-take end (drop start path), length-drop start path))
 
 -- ---- the paths of fields
 
+digits_graphic : (bs : List ℕ) → AllDigits 10 bs → list_all is_ascii_graphic bs ≡ true
+digits_graphic [] h = refl
+digits_graphic (b ∷ bs) h = and_from _ _ (let d = digit_from_value b h.0 in grind (arith, nat_tests)) (digits_graphic bs h.1)
+
 plain_index : (n : ℕ) → n < 2 ^ 64 → IsPlain 22 (at_index n)
 plain_index n h =
-    let digits : IsPlain 20 (decimal n) = record { ascii = IsAscii-decimal n h; short = length-decimal-le 20 n (omega arith) (omega arith) h } in
+    let digits : IsPlain 20 (decimal n) = plain_bytes 20 (decimal n) (digits_graphic (decimal n) (decimal_is_IsNumeral n h).0.1) (length-decimal-le 20 n (omega arith) (omega arith) h) in
     plain_append 21 1 (codes "[" ++ decimal n) (codes "]") (plain_append 1 20 (codes "[") (decimal n) (plain_bytes 1 (codes "[") refl (omega arith)) digits)
     (plain_bytes 1 (codes "]") refl (omega arith))
 

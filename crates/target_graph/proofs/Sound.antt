@@ -1,7 +1,7 @@
 -- What holds of the targets of a file that has passed.
 use Rattle.std.proofs.Common.{◌≡◌, ◌≢◌, ℕ, suc, ◌+◌, ◌<◌, ◌≤◌, Bool, true, false, not, cond, ◌||◌, List, [], ◌∷◌, ◌++◌, length, get_or, map, codes, Option, None, Some, is_some, All, Contains, ap, sym, subst, ◌∙◌, refl, arith, ltb}
 use Rattle.std.specs.Option.{option_or, option_map, option_map_or, unwrap_or}
-use Rattle.std.specs.List.{list_any, prefix_len, AllPairs}
+use Rattle.std.specs.List.{list_any, prefix_len, flat_map, AllPairs}
 use Rattle.std.specs.Str.{bytes_eq}
 use Rattle.std.proofs.lemmas.Bool.{false≢true, ltb-false}
 use Rattle.std.proofs.lemmas.List.{length-append, length-map}
@@ -157,15 +157,44 @@ pairs_count names n (e ∷ es) =
     let c = length-append e.modules (modules_of es) in
     a ∙ (omega (arith, rest, b) ∙ sym c)
 
-few_targets : (entries : List Entry) → too_many entries ≡ None → (length entries ≤ 256) × (length (modules_of entries) ≤ 1024)
-few_targets entries e = go (ltb 256 (length entries)) refl (ltb 1024 (length (modules_of entries))) refl (ltb 1024 (length (dependencies_of entries))) e
+modules_count : (names : List (List ℕ)) (entries : List Entry) → length (flat_map (λ (t : Target). t.modules) (map (target_of names) entries)) ≡ length (modules_of entries)
+modules_count names [] = refl
+modules_count names (e ∷ es) =
+    let rest = modules_count names es in
+    let a = length-append e.modules (flat_map (λ (t : Target). t.modules) (map (target_of names) es)) in
+    let b = length-append e.modules (modules_of es) in
+    omega (arith, rest, a, b)
+
+dependencies_count : (names : List (List ℕ)) (entries : List Entry)
+    → length (flat_map (λ (t : Target). t.dependencies) (map (target_of names) entries)) ≡ length (dependencies_of entries)
+dependencies_count names [] = refl
+dependencies_count names (e ∷ es) =
+    let rest = dependencies_count names es in
+    let a = length-append (map (place_of names) e.dependencies) (flat_map (λ (t : Target). t.dependencies) (map (target_of names) es)) in
+    let b = length-map e.dependencies (place_of names) in
+    let c = length-append e.dependencies (dependencies_of es) in
+    omega (arith, rest, a, b, c)
+
+-- there are few of these
+record AreFew (entries : List Entry) : Type 0 where
+  targets : length entries ≤ 256
+  modules : length (modules_of entries) ≤ 1024
+  dependencies : length (dependencies_of entries) ≤ 1024
+
+few_of : (entries : List Entry) → too_many entries ≡ None → AreFew entries
+few_of entries e = go (ltb 256 (length entries)) refl (ltb 1024 (length (modules_of entries))) refl (ltb 1024 (length (dependencies_of entries))) refl e
   where
-    go : (a : Bool) → ltb 256 (length entries) ≡ a → (b : Bool) → ltb 1024 (length (modules_of entries)) ≡ b → (c : Bool)
+    go : (a : Bool) → ltb 256 (length entries) ≡ a → (b : Bool) → ltb 1024 (length (modules_of entries)) ≡ b → (c : Bool) → ltb 1024 (length (dependencies_of entries)) ≡ c
         → cond a (Some (codes "targets")) (cond b (Some (codes "modules")) (cond c (Some (codes "dependencies")) None)) ≡ None
-        → (length entries ≤ 256) × (length (modules_of entries) ≤ 1024)
-    go true p b q c h = absurd (cc)
-    go false p true q c h = absurd (cc)
-    go false p false q c h = (ltb-false 256 (length entries) p, ltb-false 1024 (length (modules_of entries)) q)
+        → AreFew entries
+    go true p b q c r h = absurd (cc)
+    go false p true q c r h = absurd (cc)
+    go false p false q true r h = absurd (cc)
+    go false p false q false r h = record {
+      targets = ltb-false 256 (length entries) p;
+      modules = ltb-false 1024 (length (modules_of entries)) q;
+      dependencies = ltb-false 1024 (length (dependencies_of entries)) r;
+    }
 
 names_same : (keys : List (List ℕ)) (entries : List Entry) → names_of entries ≡ map (λ (t : Target). t.name) (map (target_of keys) entries)
 names_same keys [] = refl
@@ -179,7 +208,7 @@ sound_of held listing is =
     let entries = entries_in held in
     let keys = listing.names.keys in
     let targets = map (target_of keys) entries in
-    let few = few_targets entries is.few in
+    let few = few_of entries is.few in
     let size : length targets ≡ length entries = length-map entries (target_of keys) in
     let names : length keys ≡ length entries = ap (λ (xs : List (List ℕ)). length xs) is.index.same ∙ length-map entries (λ (e : Entry). e.name) in
     let known = known_of keys entries is.resolved.known in
@@ -188,8 +217,10 @@ sound_of held listing is =
           (λ k d h. subst (λ n. All (λ place. place < n) (map (place_of keys) (get_or entries k d).dependencies)) (names ∙ sym size)
           (places_within keys (get_or entries k d).dependencies (known k d h)));
       valid = valid_of keys entries (held_right held (λ kind name h. is.passed kind name (omega arith)));
-      few = (let a = few.0 in omega arith);
-      few_pairs = (let a = few.1 in let b = pairs_count keys 0 entries in omega arith);
+      few = (let a = few.targets in omega arith);
+      few_pairs = (let a = few.modules in let b = pairs_count keys 0 entries in omega arith);
+      few_modules = (let a = few.modules in let b = modules_count keys entries in omega arith);
+      few_dependencies = (let a = few.dependencies in let b = dependencies_count keys entries in omega arith);
       names = is.index.same ∙ names_same keys entries;
       distinct = subst (λ (xs : List (List ℕ)). AllPairs ◌≢◌ xs) (sym is.index.same) is.index.distinct;
     })

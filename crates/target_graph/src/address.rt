@@ -1,4 +1,4 @@
-ghost use Rattle.std.specs.Prelude.{◌≡◌, ◌≢◌, ◌<◌, ◌^◌, ◌++◌, ℕ, List, IfOk, IfSome, IfNone, length};
+ghost use Rattle.std.specs.Prelude.{◌≡◌, ◌≢◌, ◌<◌, ◌≤◌, ◌^◌, ◌++◌, ℕ, List, IfOk, IfSome, IfNone, length};
 ghost use Rattle.target_graph.specs.Address as spec;
 ghost use Rattle.std.specs.List.{list_any};
 ghost use Rattle.std.specs.Option.{option_copied};
@@ -53,8 +53,9 @@ pub(crate) fn listing(
     other: Option<&[u8]>,
 ) -> Result<Vec<u32>, NoMemory>
     requires { length targets.now < 2 ^ 32 }
-    ensures { IfOk result (λ places. AreListers targets.now (option_copied own.entry)
+    ensures listers { IfOk result (λ places. AreListers targets.now (option_copied own.entry)
         (option_copied other.entry) places.items) }
+    ensures few { IfOk result (λ places. length places.items ≤ length targets.now) }
 {
     let mut places = Vec::new(alloc);
     for place in 0..targets.len() {

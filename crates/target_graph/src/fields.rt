@@ -258,7 +258,7 @@ fn kind_named(text: &str) -> Option<TargetKind>
 }
 
 /// The path of a field of the target at a place.
-#[tactic(auto, using(crate::proofs::PlainLaws::plain_part_path), unfolding(crate::specs::File::part_path))]
+#[tactic(auto, unfolding(crate::specs::File::part_path))]
 fn part_path(alloc: Global, n: usize, part: Part) -> Result<Name, NoMemory>
     ensures path { IfOk result (λ path. path ≡ part_path n part) }
     ensures plain { IfOk result IsPlainName }

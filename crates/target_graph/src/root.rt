@@ -1,7 +1,9 @@
-ghost use Rattle.std.specs.Prelude.{◌≡◌, ◌≤◌, None, Some, IfOk, IsAscii, length};
+ghost use Rattle.std.specs.Prelude.{◌≡◌, ◌≤◌, None, Some, IfOk, length};
+ghost use Rattle.std.specs.Char.{is_ascii_graphic};
+ghost use Rattle.std.specs.List.{list_all};
 ghost use Rattle.url.specs.Parts.{serialize};
 ghost use Rattle.url.specs.Parser.{Gives, parse_url};
-ghost use Rattle.target_graph.specs.Address.{root_at, root_of_url, with_slash, within_limit};
+ghost use Rattle.target_graph.specs.Address.{root_at, root_of_url, with_slash, plain_root};
 
 use ob_text::{NoMemory, Text};
 use std::alloc::Global;
@@ -42,7 +44,8 @@ impl Root {
 /// Why an address is no root.
 #[derive(Clone, Copy, Debug, PartialEq, Eq)]
 pub enum RootFault {
-    /// It isn't an address of a folder, or its root is longer than `ROOT_LIMIT`.
+    /// It isn't an address of a folder, or its root is longer than `ROOT_LIMIT` or holds a byte that is no printing
+    /// ASCII character.
     BadRoot,
     NoMemory,
 }
@@ -80,14 +83,12 @@ fn root_of_url(alloc: Global, url: &Url) -> Result<Root, RootFault>
         return Err(RootFault::BadRoot);
     }
     let text = with_slash(alloc, url.as_str())?;
-    within_limit(text)
+    plain_root(text)
 }
 
 /// The text with a slash at its end.
 fn with_slash(alloc: Global, text: &str) -> Result<Vec<u8>, NoMemory>
-    requires { IsAscii text.now }
-    ensures text { IfOk result (λ bytes. bytes.items ≡ with_slash text.now) }
-    ensures ascii { IfOk result (λ bytes. IsAscii bytes.items) }
+    ensures { IfOk result (λ bytes. bytes.items ≡ with_slash text.now) }
 {
     let mut bytes = Vec::from_slice(alloc, text.as_bytes())?;
     if bytes.last().copied() != Some(b'/') {
@@ -96,15 +97,26 @@ fn with_slash(alloc: Global, text: &str) -> Result<Vec<u8>, NoMemory>
     Ok(bytes)
 }
 
-fn within_limit(text: Vec<u8>) -> Result<Root, RootFault>
-    requires { IsAscii text.items }
-    ensures root { IfOk result (λ root. within_limit text.items ≡ Some root) }
-    ensures bad { result ≡ Err RootFault.BadRoot → within_limit text.items ≡ None }
+/// The root that is this text.
+#[tactic(auto, using(crate::proofs::PlainLaws::plain_bytes))]
+fn plain_root(text: Vec<u8>) -> Result<Root, RootFault>
+    ensures root { IfOk result (λ root. plain_root text.items ≡ Some root) }
+    ensures bad { result ≡ Err RootFault.BadRoot → plain_root text.items ≡ None }
 {
     if text.len() > ROOT_LIMIT {
+        return Err(RootFault::BadRoot);
+    }
+    if !is_graphic(text.as_slice()) {
         return Err(RootFault::BadRoot);
     }
     Ok(Root {
         text: Text::from_vec(text),
     })
+}
+
+/// Whether a text holds printing ASCII characters alone, without blanks.
+fn is_graphic(text: &[u8]) -> bool
+    ensures { result ≡ list_all is_ascii_graphic text.now }
+{
+    text.iter().all(|byte| byte.is_ascii_graphic())
 }

@@ -1,12 +1,14 @@
-ghost use Rattle.std.specs.Prelude.{◌≡◌, ◌≢◌, ◌<◌, ◌≤◌, ℕ, length, Some, IfOk, IfErr, IfSome, IfNone, All};
-ghost use Rattle.std.specs.List.{AllPairs};
-ghost use Rattle.target_graph.specs.Address.{document_address, IsPlainAddress};
+ghost use Rattle.std.specs.Prelude.{◌≡◌, ◌≢◌, ◌<◌, ◌≤◌, ℕ, length, true, Some, IfOk, IfErr, IfSome, IfNone, All};
+ghost use Rattle.std.specs.List.{AllPairs, flat_map};
+ghost use Rattle.target_graph.specs.Address.{target_address, document_address, IsPlainAddress};
 ghost use Rattle.target_graph.specs.Faults.{Accepted, IsRefusal, HasPlainName, Passed};
 ghost use Rattle.target_graph.specs.Kept.{IsSound};
 ghost use Rattle.target_graph.specs.Listing.{IsListing, Accepts};
+ghost use Rattle.target_graph.specs.Names.{is_name, is_path};
 ghost use Rattle.target_graph.specs.Walk.{AreClosed};
 ghost use Rattle.target_graph.specs.Workspace.{pairs_of, id_of, path_at, named, with_id, AreValid, IsClosure, IsVisible, Names, IsInverse};
 ghost use Rattle.ob_text.specs.declared.held.Held.{Held};
+ghost use Rattle.target_graph.specs.declared.listing.TheConstants.{DEPENDENCY_LIMIT};
 
 use crate::address::{behind, joined, listing, printed};
 use crate::fault::WorkspaceRefusal;
@@ -18,7 +20,7 @@ use crate::table::{number, table};
 use crate::target::{Pair, Target};
 use crate::walk::{check_cycles, marked, reached};
 use indexmap::IndexSet;
-use ob_text::{Held, Name, NoMemory, Text};
+use ob_text::{Held, Name, NoMemory, Path, Text};
 use std::alloc::Global;
 use std::marker::Model;
 
@@ -116,6 +118,9 @@ impl Workspace {
     pub fn targets(&self) -> &[Target]
         ensures targets { result.now ≡ self.now.targets }
         ensures few { length result.now ≤ TARGET_LIMIT }
+        ensures few_modules { length (flat_map (λ target. target.modules) result.now) ≤ PAIR_LIMIT }
+        ensures few_dependencies { length (flat_map (λ target. target.dependencies) result.now)
+            ≤ DEPENDENCY_LIMIT }
         // Each dependency is the place of a target.
         ensures closed { AreClosed result.now }
         // Each name is a target's name, and each path is a module's path, as `stem_of` wants it.
@@ -168,8 +173,16 @@ impl Workspace {
         ensures id { IfOk result (λ id. id ≡ id_of self.now target) }
         ensures plain { IfOk result IsPlainAddress }
     {
-        let name = self.targets[target as usize].name.as_slice();
-        joined(self.alloc, self.root.as_slice(), ID_MARK, name)
+        self.id_of_name(&self.targets[target as usize].name)
+    }
+
+    /// The id of a target that has this name.
+    pub fn id_of_name(&self, name: &Name) -> Result<Text, NoMemory>
+        requires { is_name name.now ≡ true }
+        ensures id { IfOk result (λ id. id ≡ target_address self.now.root name.now) }
+        ensures plain { IfOk result IsPlainAddress }
+    {
+        joined(self.alloc, self.root.as_slice(), ID_MARK, name.as_slice())
     }
 
     /// The address of a pair's document: the root and the path.
@@ -179,8 +192,16 @@ impl Workspace {
             self.now.targets pair)) }
         ensures plain { IfOk result IsPlainAddress }
     {
-        let path = self.pairs[pair as usize].path.as_slice();
-        joined(self.alloc, self.root.as_slice(), b"", path)
+        self.address_of_path(&self.pairs[pair as usize].path)
+    }
+
+    /// The address of a document that has this path.
+    pub fn address_of_path(&self, path: &Path) -> Result<Text, NoMemory>
+        requires { is_path path.now ≡ true }
+        ensures address { IfOk result (λ text. text ≡ document_address self.now.root path.now) }
+        ensures plain { IfOk result IsPlainAddress }
+    {
+        joined(self.alloc, self.root.as_slice(), b"", path.as_slice())
     }
 
     /// The target whose id an address is. An address counts as it is spelled, or as `url` prints
@@ -226,7 +247,8 @@ impl Workspace {
     /// it is
     /// spelled, or as `url` prints it; one that is no document's has none.
     pub fn inverse(&self, uri: &str) -> Result<Vec<u32>, NoMemory>
-        ensures { IfOk result (λ targets. IsInverse self.now uri.now targets.items) }
+        ensures inverse { IfOk result (λ targets. IsInverse self.now uri.now targets.items) }
+        ensures few { IfOk result (λ targets. length targets.items ≤ TARGET_LIMIT) }
     {
         let printed = printed(self.alloc, uri)?;
         let own = behind(uri.as_bytes(), self.root.as_slice());

@@ -1,4 +1,4 @@
-use Rattle.std.proofs.Common.{◌≡◌, ◌+◌, ℕ, List, option_copied, ap, sym, subst, ◌∙◌}
+use Rattle.std.proofs.Common.{◌≡◌, ◌+◌, ◌≤◌, ℕ, List, length, length-append, lit≤, arith, option_copied, ap, sym, subst, ◌∙◌}
 use Rattle.std.specs.List.{list_any}
 use Rattle.target_graph.specs.declared.target.Target.{Target}
 use Rattle.target_graph.specs.Listers.{is_one}
@@ -8,8 +8,11 @@ use Rattle.target_graph.proofs.address.listing.Goals.{then-lists+in_ok-push, els
 
 pub loop-place-init : goal.loop-place-init
 loop-place-init c =
-    subst (λ (ps : List ℕ). AreListersTo c.args.targets.now (option_copied c.args.own) (option_copied c.args.other) 0 ps) (sym c.new-places.ensures.items)
-    (listers_none c.args.targets.now (option_copied c.args.own) (option_copied c.args.other))
+    record {
+      are = subst (λ (ps : List ℕ). AreListersTo c.args.targets.now (option_copied c.args.own) (option_copied c.args.other) 0 ps) (sym c.new-places.ensures.items)
+          (listers_none c.args.targets.now (option_copied c.args.own) (option_copied c.args.other));
+      few = subst (λ (ps : List ℕ). length ps ≤ 0) (sym c.new-places.ensures.items) (lit≤ tt);
+    }
 
 pub loop-place-preserved : goal.loop-place-preserved
 loop-place-preserved c =
@@ -23,12 +26,23 @@ loop-place-preserved c =
     elim c.if-lists.branch [
       | then-lists+in_ok-push w ↦
           rw w.places-is
-          (subst (λ (ps : List ℕ). AreListersTo targets own other (at + 1) ps) (sym w.in_ok-push.ensures.items)
-          (listers_more targets own other at c.loop-place.places.items c.loop-place.invariant
-          (lister_at targets own other at target c.loop-place-test.true c.index-targets-place.is (sym told ∙ w.if-lists.true))))
+          (record {
+            are = subst (λ (ps : List ℕ). AreListersTo targets own other (at + 1) ps) (sym w.in_ok-push.ensures.items)
+                (listers_more targets own other at c.loop-place.places.items c.loop-place.invariant.are
+                (lister_at targets own other at target c.loop-place-test.true c.index-targets-place.is (sym told ∙ w.if-lists.true)));
+            few = (let before = c.loop-place.invariant.few in let more = ap (λ (ps : List ℕ). length ps) w.in_ok-push.ensures.items ∙ length-append c.loop-place.places.items _ in omega arith);
+          })
       | else-lists w ↦
-          rw w.places-is (listers_less targets own other at c.loop-place.places.items target c.loop-place-test.true c.index-targets-place.is c.loop-place.invariant (sym told ∙ w.if-lists.false))
+          rw w.places-is
+          (record {
+            are = listers_less targets own other at c.loop-place.places.items target c.loop-place-test.true c.index-targets-place.is c.loop-place.invariant.are (sym told ∙ w.if-lists.false);
+            few = (let before = c.loop-place.invariant.few in omega arith);
+          })
     ]
 
 pub returns : goal.returns
-returns c = listers_all c.args.targets.now (option_copied c.args.own) (option_copied c.args.other) c.loop-place.place c.loop-place.places.items c.loop-place-test.false c.loop-place.invariant
+returns c =
+    record {
+      listers = listers_all c.args.targets.now (option_copied c.args.own) (option_copied c.args.other) c.loop-place.place c.loop-place.places.items c.loop-place-test.false c.loop-place.invariant.are;
+      few = (let before = c.loop-place.invariant.few in let within = c.loop-place.auto.place-end in omega arith);
+    }

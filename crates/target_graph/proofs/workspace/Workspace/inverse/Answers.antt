@@ -12,8 +12,8 @@ listing-requires c =
     let a = ap (λ (xs : List Target). length xs) c.as_slice-in-Some.ensures.value in
     omega (arith, a, c.self.invariant.sound.few)
 
-pub returns-in-Some : goal.returns-in-Some
-returns-in-Some c =
+pub returns-in-Some-clause-inverse : goal.returns-in-Some-clause-inverse
+returns-in-Some-clause-inverse c =
     let space = c.args.self.now in
     let uri = c.args.uri.now in
     let front = c.as_slice.result.now in
@@ -31,10 +31,10 @@ returns-in-Some c =
     IfOk-weaker c.listing.result _ _
     (λ places l. inverse_of space uri front own (option_copied other) places.items root some none cut
     (subst (λ (xs : List Target). AreListers xs (option_copied own) (option_copied other) places.items) (c.as_slice-in-Some.ensures.value ∙ ts) l))
-    c.listing.ensures
+    c.listing.ensures.listers
 
-pub returns : goal.returns
-returns c =
+pub returns-clause-inverse : goal.returns-clause-inverse
+returns-clause-inverse c =
     let space = c.args.self.now in
     let uri = c.args.uri.now in
     let front = c.as_slice.result.now in
@@ -47,4 +47,14 @@ returns c =
     IfOk-weaker c.listing-in-None.result _ _
     (λ places l. inverse_of space uri front own None places.items root some none (cut_none uri front told)
     (subst (λ (xs : List Target). AreListers xs (option_copied own) None places.items) (c.as_slice-in-None.ensures.value ∙ ts) l))
-    c.listing-in-None.ensures
+    c.listing-in-None.ensures.listers
+
+pub returns-in-Some-clause-few : goal.returns-in-Some-clause-few
+returns-in-Some-clause-few c =
+    let size = ap (λ (xs : List Target). length xs) c.as_slice-in-Some.ensures.value in
+    IfOk-weaker c.listing.result _ _ (λ places few. omega (arith, few, size, c.self.invariant.sound.few)) c.listing.ensures.few
+
+pub returns-clause-few : goal.returns-clause-few
+returns-clause-few c =
+    let size = ap (λ (xs : List Target). length xs) c.as_slice-in-None.ensures.value in
+    IfOk-weaker c.listing-in-None.result _ _ (λ places few. omega (arith, few, size, c.self.invariant.sound.few)) c.listing-in-None.ensures.few

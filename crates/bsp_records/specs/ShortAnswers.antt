@@ -1,0 +1,74 @@
+-- Answers that are short and have only printing characters, as those about a workspace are: their
+-- results print in a frame.
+use Rattle.std.specs.Prelude.{◌≡◌, ◌≤◌, ℕ, List, length, true, flat_map}
+use Rattle.std.specs.Char.{is_ascii_graphic}
+use Rattle.std.specs.List.{All, list_all}
+use Rattle.bsp_records.specs.Short.{IsWithin, address_limit}
+use Rattle.bsp_records.specs.declared.identifiers.BuildTargetIdentifier.{BuildTargetIdentifier}
+use Rattle.bsp_records.specs.declared.results.BuildTarget.{BuildTarget}
+use Rattle.bsp_records.specs.declared.results.BuildTargetsResult.{BuildTargetsResult}
+use Rattle.bsp_records.specs.declared.results.InverseSourcesResult.{InverseSourcesResult}
+use Rattle.bsp_records.specs.declared.results.SourceItem.{SourceItem}
+use Rattle.bsp_records.specs.declared.results.SourcesItem.{SourcesItem}
+use Rattle.bsp_records.specs.declared.results.SourcesResult.{SourcesResult}
+
+-- each byte is a printing character of ASCII
+abbrev pub IsGraphic : List ℕ → Type 0
+IsGraphic text = list_all is_ascii_graphic text ≡ true
+
+pub record IsGraphicWithin (limit : ℕ) (text : List ℕ) : Type 0 where
+  pub graphic : IsGraphic text
+  pub short : IsWithin limit text
+
+-- a short address of a document or a target
+abbrev pub IsShortId : List ℕ → Type 0
+IsShortId = IsGraphicWithin address_limit
+
+abbrev pub IsShortIdentifier : BuildTargetIdentifier → Type 0
+IsShortIdentifier target = IsShortId target.uri
+
+-- ---- targets
+
+-- the most targets of an answer
+abbrev pub targets_limit : ℕ
+targets_limit = 256
+
+-- the most dependencies over all targets of an answer, or documents
+abbrev pub entries_limit : ℕ
+entries_limit = 1024
+
+pub record IsShortTarget (t : BuildTarget) : Type 0 where
+  pub id : IsShortIdentifier t.id
+  pub display_name : IsGraphicWithin 255 t.display_name
+  pub tag_count : length t.tags ≤ 1
+  pub tags : All (IsGraphicWithin 20) t.tags
+  pub language_count : length t.language_ids ≤ 1
+  pub language_ids : All (IsGraphicWithin 20) t.language_ids
+  pub dependencies : All IsShortIdentifier t.dependencies
+
+pub record IsShortTargets (r : BuildTargetsResult) : Type 0 where
+  pub count : length r.targets ≤ targets_limit
+  pub targets : All IsShortTarget r.targets
+  pub dependency_count : length (flat_map (λ t. t.dependencies) r.targets) ≤ entries_limit
+
+-- ---- documents
+
+abbrev pub IsShortSource : SourceItem → Type 0
+IsShortSource s = IsShortId s.uri
+
+pub record IsShortSourcesItem (i : SourcesItem) : Type 0 where
+  pub target : IsShortIdentifier i.target
+  pub sources : All IsShortSource i.sources
+
+pub record IsShortSources (r : SourcesResult) : Type 0 where
+  pub count : length r.items ≤ targets_limit
+  pub items : All IsShortSourcesItem r.items
+  pub source_count : length (flat_map (λ i. i.sources) r.items) ≤ entries_limit
+
+pub record IsShortInverseSources (r : InverseSourcesResult) : Type 0 where
+  pub count : length r.targets ≤ targets_limit
+  pub targets : All IsShortIdentifier r.targets
+
+-- the most bytes that a short answer prints as
+abbrev pub answer_limit : ℕ
+answer_limit = 16000000
