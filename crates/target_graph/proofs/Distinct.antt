@@ -1,17 +1,17 @@
 -- The pairs of a workspace stand at distinct addresses, since no two that a target sees have one stem.
-use Rattle.std.proofs.Common.{◌≡◌, ◌≢◌, ◌++◌, ℕ, ◌<◌, List, [], length, get_or, map, Option, None, ap, sym, subst, ◌∙◌, refl, arith}
+use Rattle.std.proofs.Common.{◌≡◌, ◌≢◌, ◌++◌, ℕ, ◌<◌, List, [], length, get_or, map, ap, sym, subst, ◌∙◌, refl, arith}
 use Rattle.std.specs.Prelude.{codes}
 use Rattle.std.specs.List.{AllPairs}
 use Rattle.std.proofs.lemmas.List.{append_cancel_left, get_or_default, get_or-map, length-map}
-use Rattle.std.proofs.lemmas.Option.{slice_get_read, same_Some}
+use Rattle.std.proofs.lemmas.Option.{slice_get_read}
 use Rattle.target_graph.specs.declared.target.Pair.{Pair}
 use Rattle.target_graph.specs.declared.target.Target.{Target}
 use Rattle.target_graph.specs.Address.{document_address, target_address}
 use Rattle.target_graph.specs.Names.{stem}
-use Rattle.target_graph.specs.Table.{IsNumbering, IsTable}
-use Rattle.target_graph.specs.Workspace.{Space, id_of, name_at, pairs_of, stems_of, Sees}
+use Rattle.target_graph.specs.Faults.{IsRepeat}
+use Rattle.target_graph.specs.Workspace.{Space, id_of, name_at, pairs_of, Sees}
 use Rattle.target_graph.proofs.PairLaws.{pairs_within}
-use Rattle.target_graph.proofs.Rows.{same_place}
+use Rattle.target_graph.proofs.SeenStems.{same_place}
 
 -- a target sees its own pairs
 sees_own : (targets : List Target) (i : ℕ) (pair : Pair) (t : ℕ) → i < length (pairs_of targets) → pair ≡ get_or (pairs_of targets) i pair → t ≡ pair.target → Sees targets t i
@@ -21,26 +21,20 @@ sees_own targets i pair t h e own = record {
   leads = record { way = []; is_way = own };
 }
 
-pairs_distinct : (targets : List Target) (keys : List (List ℕ)) (numbers : List ℕ) (width : ℕ) (rows : List (List (Option ℕ)))
-    → IsNumbering (stems_of (pairs_of targets)) keys numbers → IsTable targets numbers width rows → AllPairs ◌≢◌ (pairs_of targets)
-pairs_distinct targets keys numbers width rows numbered table i j d h k same =
+pairs_distinct : (targets : List Target) → ((t q : ℕ) → ¬ (IsRepeat targets t q)) → AllPairs ◌≢◌ (pairs_of targets)
+pairs_distinct targets once i j d h k same =
     let pairs : List Pair = pairs_of targets in
-    let size : length (stems_of pairs) ≡ length pairs = length-map pairs (λ (p : Pair). stem p.path) in
     let i_in : i < length pairs = omega arith in
     let p : Pair = get_or pairs i d in
     let q : Pair = get_or pairs j d in
-    let t_in : p.target < length targets = pairs_within targets i d i_in in
-    let one : Sees targets p.target i = sees_own targets i p p.target i_in (get_or_default pairs i d p i_in) refl in
-    let two : Sees targets p.target j = sees_own targets j q p.target k (get_or_default pairs j d q k) (ap (λ (x : Pair). x.target) same) in
-    let i_at : i < length (stems_of pairs) = omega (arith, size) in
-    let j_at : j < length (stems_of pairs) = omega (arith, size) in
-    let stems : get_or (stems_of pairs) i [] ≡ get_or (stems_of pairs) j [] =
-    get_or-map (λ (x : Pair). stem x.path) pairs i d [] i_in ∙ (ap (λ (x : Pair). stem x.path) same ∙ sym (get_or-map (λ (x : Pair). stem x.path) pairs j d [] k)) in
-    let number : get_or numbers i 0 ≡ get_or numbers j 0 =
-    same_place keys (get_or numbers i 0) (get_or numbers j 0) numbered.distinct (numbered.within i i_at) (numbered.within j j_at) (numbered.named i i_at ∙ (stems ∙ sym (numbered.named j j_at))) in
-    let place : i ≡ j =
-    same_Some i j (sym (table.whole p.target i t_in one) ∙ (ap (λ n. get_or (get_or rows p.target []) n None) number ∙ table.whole p.target j t_in two)) in
-    absurd (omega (arith, place))
+    once p.target j
+    (record {
+      earlier = i;
+      before = h;
+      sees_earlier = sees_own targets i p p.target i_in (get_or_default pairs i d p i_in) refl;
+      sees = sees_own targets j q p.target k (get_or_default pairs j d q k) (ap (λ (x : Pair). x.target) same);
+      same = get_or-map (λ (x : Pair). stem x.path) pairs i d [] i_in ∙ (ap (λ (x : Pair). stem x.path) same ∙ sym (get_or-map (λ (x : Pair). stem x.path) pairs j d [] k));
+    })
 
 -- ---- two pairs at one address are one
 
@@ -62,9 +56,9 @@ same_pair space names p q h k documents ids =
     let name : name_at space.targets p.target ≡ name_at space.targets q.target = same_name space.root (name_at space.targets p.target) (name_at space.targets q.target) ids in
     parts_same p q (same_place (map (λ (t : Target). t.name) space.targets) p.target q.target names (subst (λ n. p.target < n) (sym size) h) (subst (λ n. q.target < n) (sym size) k) name) path
 
-pub pairs_apart : (space : Space) (keys : List (List ℕ)) (numbers : List ℕ) (width : ℕ) (rows : List (List (Option ℕ))) → AllPairs ◌≢◌ (map (λ (t : Target). t.name) space.targets)
-    → IsNumbering (stems_of (pairs_of space.targets)) keys numbers → IsTable space.targets numbers width rows → AllPairs (AreApart space) (pairs_of space.targets)
-pairs_apart space keys numbers width rows names numbered table i j d h k documents ids =
-    pairs_distinct space.targets keys numbers width rows numbered table i j d h k
+pub pairs_apart : (space : Space) → AllPairs ◌≢◌ (map (λ (t : Target). t.name) space.targets) → ((t q : ℕ) → ¬ (IsRepeat space.targets t q))
+    → AllPairs (AreApart space) (pairs_of space.targets)
+pairs_apart space names once i j d h k documents ids =
+    pairs_distinct space.targets once i j d h k
     (same_pair space names (get_or (pairs_of space.targets) i d) (get_or (pairs_of space.targets) j d)
     (pairs_within space.targets i d (omega arith)) (pairs_within space.targets j d k) documents ids)

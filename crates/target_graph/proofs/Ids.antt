@@ -14,7 +14,7 @@ use Rattle.target_graph.specs.Faults.{place_of}
 use Rattle.target_graph.specs.Listers.{is_this, is_one, IsLister, AreListers}
 use Rattle.target_graph.specs.Workspace.{Space, pairs_of, name_at, path_at, id_of, Lists, IsInverse}
 use Rattle.target_graph.proofs.Listed.{listed_any}
-use Rattle.target_graph.proofs.Rows.{same_place}
+use Rattle.target_graph.proofs.SeenStems.{same_place}
 use Rattle.target_graph.proofs.Sound.{place_within}
 
 pub id_joined : (space : Space) (t : ℕ) (root name : List ℕ) → root ≡ space.root → name ≡ name_at space.targets t → (root ++ codes "?id=") ++ name ≡ id_of space t

@@ -10,7 +10,10 @@ pub mod TurnedTests
 pub mod WalkLaws
 pub mod Marked
 pub mod Cycles
-pub mod Rows
+pub mod InMemory
+pub mod Sweeps
+pub mod SeenStems
+pub mod Groups
 pub mod Numbers
 pub mod Refusals
 pub mod Texts

@@ -6,7 +6,7 @@ use Rattle.std.proofs.lemmas.Bool.{cases_eq}
 use Rattle.std.proofs.lemmas.List.{append-nil, length_push, length-append, get_or_append_left, get_or_push}
 use Rattle.std.proofs.lemmas.Option.{slice_get_within, get_or_from_slice_get}
 use Rattle.std.proofs.lemmas.Slice.Eq.{bytes_eq-Decides}
-use Rattle.target_graph.specs.Table.{IsNumbered, IsNumbering}
+use Rattle.target_graph.specs.Stems.{IsNumbered, IsNumbering}
 use Rattle.target_graph.proofs.Listed.{none_listed, distinct_more}
 
 pub numbered : (old new : List (List ℕ)) (text : List ℕ) (n : ℕ) → new ≡ cond (list_any (bytes_eq text) old) old (old ++ text ∷ [])

@@ -1,17 +1,19 @@
--- What a cell of the table says of a name.
-use Rattle.std.proofs.Common.{◌≡◌, ℕ, ◌<◌, List, [], length, get_or, map, Option, Some, None, IfSome, IfNone, Contains, Vec, Global, ap, sym, subst, ◌∙◌}
+-- What a name means to the modules of a target.
+use Rattle.std.proofs.Common.{◌≡◌, ℕ, ◌<◌, Bool, List, [], ◌∷◌, length, get_or, Option, Some, None, IfSome, IfNone, All, Contains, ap, sym, subst, ◌∙◌, arith}
 use Rattle.std.specs.List.{position}
 use Rattle.std.specs.Str.{bytes_eq}
-use Rattle.std.proofs.lemmas.List.{get_or_default, get_or-map, length-map}
+use Rattle.std.proofs.lemmas.List.{get_or_default, length-map}
+use Rattle.std.proofs.lemmas.List.Elements.{All-contains, Contains-get_or}
 use Rattle.std.proofs.lemmas.List.Quantifiers.{position-Some}
-use Rattle.std.proofs.lemmas.Option.{slice_get_within, none-some}
+use Rattle.std.proofs.lemmas.Option.{slice_get_within}
 use Rattle.std.proofs.lemmas.Slice.Eq.{bytes_eq-Decides}
 use Rattle.target_graph.specs.declared.target.Pair.{Pair}
 use Rattle.target_graph.specs.declared.target.Target.{Target}
 use Rattle.target_graph.specs.Names.{stem}
 use Rattle.target_graph.specs.Workspace.{pairs_of, stems_of, stem_at, Sees, IsVisible}
-use Rattle.target_graph.specs.Table.{IsNumbering, IsTable}
-use Rattle.target_graph.proofs.Rows.{same_place}
+use Rattle.target_graph.specs.Stems.{IsNumbering, AreGroups, IsSeen}
+use Rattle.target_graph.specs.Walk.{AreMarks}
+use Rattle.target_graph.proofs.SeenStems.{same_place, sees_seen, seen_sees}
 
 within_stems : (targets : List Target) (t p : ℕ) → Sees targets t p → p < length (stems_of (pairs_of targets))
 within_stems targets t p s =
@@ -23,19 +25,23 @@ key_of : (targets : List Target) (keys : List (List ℕ)) (numbers : List ℕ) (
     → get_or keys (get_or numbers p 0) [] ≡ stem_at targets p
 key_of targets keys numbers t p n s = n.named p (within_stems targets t p s)
 
-pub cell_shows : (targets : List Target) (keys : List (List ℕ)) (numbers : List ℕ) (rows : List (List (Option ℕ))) (t : ℕ) (name : List ℕ) (number : ℕ) (cell : Option ℕ)
-    → IsNumbering (stems_of (pairs_of targets)) keys numbers → IsTable targets numbers (length keys) rows → t < length targets
-    → number < length keys → get_or keys number [] ≡ name → get_or (get_or rows t []) number None ≡ cell
-    → IfSome cell (IsVisible targets t name) × IfNone cell ((p : ℕ) → ¬ (IsVisible targets t name p))
-cell_shows targets keys numbers rows t name number (Some p) n table h w e cell =
-    let s = table.shown t number p h cell in
-    (record { sees = s.0; named = sym (key_of targets keys numbers t p n s.0) ∙ (ap (λ k. get_or keys k []) s.1 ∙ e) }, tt)
-cell_shows targets keys numbers rows t name number None n table h w e cell = (
+-- a pair of the group that the target sees
+pub group_shows : (targets : List Target) (keys : List (List ℕ)) (numbers : List ℕ) (groups : List (List ℕ)) (t : ℕ) (marks : List Bool) (name : List ℕ) (number : ℕ) (found : Option ℕ)
+    → IsNumbering (stems_of (pairs_of targets)) keys numbers → AreGroups numbers (length keys) groups → AreMarks targets (t ∷ []) marks
+    → number < length keys → get_or keys number [] ≡ name
+    → IfSome found (λ q. Contains (get_or groups number []) q × IsSeen marks (pairs_of targets) q)
+    → IfNone found (All (λ q. ¬ (IsSeen marks (pairs_of targets) q)) (get_or groups number []))
+    → IfSome found (IsVisible targets t name) × IfNone found ((p : ℕ) → ¬ (IsVisible targets t name p))
+group_shows targets keys numbers groups t marks name number (Some p) n g m h e some none =
+    let s = seen_sees targets t marks m p some.1 in
+    (record { sees = s; named = sym (key_of targets keys numbers t p n s) ∙ (ap (λ k. get_or keys k []) (g.each number p some.0).1 ∙ e) }, tt)
+group_shows targets keys numbers groups t marks name number None n g m h e some none = (
   tt,
   λ p v.
       let in' = within_stems targets t p v.sees in
-      let same = same_place keys (get_or numbers p 0) number n.distinct (n.within p in') w (key_of targets keys numbers t p n v.sees ∙ (v.named ∙ sym e)) in
-      none-some p (sym cell ∙ (ap (λ k. get_or (get_or rows t []) k None) (sym same) ∙ table.whole t p h v.sees)),
+      let same = same_place keys (get_or numbers p 0) number n.distinct (n.within p in') h (key_of targets keys numbers t p n v.sees ∙ (v.named ∙ sym e)) in
+      let listed = subst (λ k. Contains (get_or groups k []) p) same (g.whole p (omega (arith, in', n.size))) in
+      All-contains (λ q. ¬ (IsSeen marks (pairs_of targets) q)) (get_or groups number []) p none listed (sees_seen targets t marks m p v.sees),
 )
 
 pub not_visible : (targets : List Target) (keys : List (List ℕ)) (numbers : List ℕ) (t : ℕ) (name : List ℕ)
@@ -50,6 +56,10 @@ key_found keys name number p =
     let at = position-Some (bytes_eq name) keys number [] p in
     (at.0, sym ((bytes_eq-Decides name (get_or keys number [])).0 at.1))
 
-pub row_at : (rows : List (Vec (Option ℕ) Global)) (t : ℕ) (row : Vec (Option ℕ) Global) → t < length rows → row ≡ get_or rows t row
-    → get_or (map (λ (v : Vec (Option ℕ) Global). v.items) rows) t [] ≡ row.items
-row_at rows t row h e = get_or-map (λ (v : Vec (Option ℕ) Global). v.items) rows t row [] h ∙ ap (λ (v : Vec (Option ℕ) Global). v.items) (sym e)
+-- the pairs of a group are pairs
+pub group_within : (targets : List Target) (keys : List (List ℕ)) (numbers : List ℕ) (groups : List (List ℕ)) (number : ℕ) → IsNumbering (stems_of (pairs_of targets)) keys numbers
+    → AreGroups numbers (length keys) groups → All (λ q. q < length (pairs_of targets)) (get_or groups number [])
+group_within targets keys numbers groups number n g = λ k d h.
+    let group = get_or groups number [] in
+    let in' = (g.each number (get_or group k d) (Contains-get_or group k d h)).0 in
+    omega (arith, in', n.size, length-map (pairs_of targets) (λ (x : Pair). stem x.path))

@@ -7,7 +7,7 @@ use Rattle.std.proofs.lemmas.Option.{slice_get_read, same_Some}
 use Rattle.std.proofs.lemmas.List.Sums.{sum_by-set, count_by-le-length}
 use Rattle.std.proofs.lemmas.List.Elements.{All-nil, All-head, All-tail, All-push, All-contains, Contains-push, Contains-append_left, Contains-push_cases, Contains-get_or}
 use Rattle.target_graph.specs.declared.target.Target.{Target}
-use Rattle.target_graph.specs.Workspace.{IsDirect, IsWay, IsReached}
+use Rattle.target_graph.specs.Workspace.{IsDirect, IsWay, Leads, IsReached}
 use Rattle.target_graph.specs.Walk.{Met, has_met, meet, meet_all, AreClosed, AreMarks}
 
 -- what holds all along a walk: the marks stand at the targets of the order, and an asked one leads to each of these
@@ -130,7 +130,7 @@ pub record IsOnWay (targets : List Target) (asked : List ℕ) (met : Met) (at : 
 abbrev pub first_met : ℕ → Met
 first_met n = record { marks = replicate n false; order = [] }
 
-no_marks : (n b : ℕ) → has_met (replicate n false) b ≡ false
+pub no_marks : (n b : ℕ) → has_met (replicate n false) b ≡ false
 no_marks zero b = refl
 no_marks (suc n) zero = refl
 no_marks (suc n) (suc b) = no_marks n b
@@ -246,3 +246,18 @@ pub inside_marks : (targets : List Target) (asked : List ℕ) (met : Met) (at t 
 inside_marks targets asked met at t target closed w h there =
     subst (λ n. All (λ d. d < n) target.dependencies) (sym w.walk.size)
     (subst (λ (x : Target). All (λ y. y < length targets) x.dependencies) (sym there) (closed t target h))
+
+-- ---- the closure of one target
+
+pub only : (t a : ℕ) → Contains (t ∷ []) a → a ≡ t
+only t a (zero, h, e) = sym e
+only t a (suc k, h, e) = absurd (omega arith)
+
+pub itself : (t : ℕ) → Contains (t ∷ []) t
+itself t = (0, omega arith, refl)
+
+pub mark_leads : (targets : List Target) (t b : ℕ) (marks : List Bool) → AreMarks targets (t ∷ []) marks → has_met marks b ≡ true → Leads targets t b
+mark_leads targets t b marks m is = (let r = m.reached b is in subst (λ a. Leads targets a b) (only t r.from r.asked_for) r.leads)
+
+pub leads_mark : (targets : List Target) (t b : ℕ) (marks : List Bool) → AreMarks targets (t ∷ []) marks → Leads targets t b → has_met marks b ≡ true
+leads_mark targets t b marks m l = m.whole b (record { from = t; asked_for = itself t; leads = l })

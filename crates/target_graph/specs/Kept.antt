@@ -1,11 +1,13 @@
--- What a workspace keeps beside its targets: their names, the stems of their modules, and what each target sees.
+-- What a workspace keeps beside its targets: their names and closures, the stems of their modules, and the pairs of each stem.
 use Rattle.std.specs.Prelude.{◌≡◌, ◌≢◌, ℕ, ◌≤◌, List, length, map}
 use Rattle.std.specs.List.{AllPairs, flat_map}
 use Rattle.target_graph.specs.declared.listing.TheConstants.{TARGET_LIMIT, PAIR_LIMIT, DEPENDENCY_LIMIT}
 use Rattle.target_graph.specs.declared.reading.Listing.{Listing}
 use Rattle.target_graph.specs.declared.target.Target.{Target}
 use Rattle.target_graph.specs.declared.workspace.Workspace.TheInside.{Inside}
-use Rattle.target_graph.specs.Table.{IsNumbering, IsTable, lists}
+use Rattle.target_graph.specs.Closures.{AreClosures, lists}
+use Rattle.target_graph.specs.Faults.{IsRepeat}
+use Rattle.target_graph.specs.Stems.{IsNumbering, AreGroups}
 use Rattle.target_graph.specs.Walk.{AreClosed}
 use Rattle.target_graph.specs.Workspace.{Space, pairs_of, stems_of, AreValid}
 
@@ -31,4 +33,6 @@ pub record IsKept (w : Inside) : Type 0 where
   pub pairs : w.pairs.items ≡ pairs_of w.targets.items
   pub numbers : List ℕ
   pub numbered : IsNumbering (stems_of (pairs_of w.targets.items)) w.stems.keys numbers
-  pub table : IsTable w.targets.items numbers (length w.stems.keys) (lists w.rows)
+  pub groups : AreGroups numbers (length w.stems.keys) (lists w.groups)
+  pub closures : AreClosures w.targets.items (lists w.closures)
+  pub once : (t q : ℕ) → ¬ (IsRepeat w.targets.items t q)

@@ -1,4 +1,5 @@
 pub mod Address
+pub mod Closures
 pub mod Faults
 pub mod File
 pub mod Kept
@@ -8,6 +9,6 @@ pub mod Met
 pub mod Names
 pub mod Plain
 pub mod Root
-pub mod Table
+pub mod Stems
 pub mod Walk
 pub mod Workspace

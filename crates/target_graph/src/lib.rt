@@ -4,6 +4,8 @@
 #![tactic(auto)]
 
 mod address;
+mod blank;
+mod closures;
 mod entry;
 mod fault;
 mod fields;
@@ -12,7 +14,7 @@ mod names;
 mod pairs;
 mod reading;
 mod root;
-mod table;
+mod stems;
 mod target;
 #[cfg(test)]
 mod tests;

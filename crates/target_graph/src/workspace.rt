@@ -1,6 +1,7 @@
 ghost use Rattle.std.specs.Prelude.{◌≡◌, ◌≢◌, ◌<◌, ◌≤◌, ℕ, length, true, Some, IfOk, IfErr, IfSome, IfNone, All};
 ghost use Rattle.std.specs.List.{AllPairs, flat_map};
 ghost use Rattle.target_graph.specs.Address.{target_address, document_address, IsPlainAddress};
+ghost use Rattle.target_graph.specs.Closures.{AreClosures, lists};
 ghost use Rattle.target_graph.specs.Faults.{Accepted, IsRefusal, HasPlainName, Passed};
 ghost use Rattle.target_graph.specs.Kept.{IsSound};
 ghost use Rattle.target_graph.specs.Listing.{IsListing, Accepts};
@@ -11,14 +12,15 @@ ghost use Rattle.ob_text.specs.declared.held.Held.{Held};
 ghost use Rattle.target_graph.specs.declared.listing.TheConstants.{DEPENDENCY_LIMIT};
 
 use crate::address::{behind, joined, listing, printed};
+use crate::closures::closures;
 use crate::fault::WorkspaceRefusal;
 use crate::listing::{PAIR_LIMIT, TARGET_LIMIT, place_of};
 use crate::pairs::pairs_of;
 use crate::reading::{Listing, read_file};
 use crate::root::Root;
-use crate::table::{number, table};
+use crate::stems::{check_stems, first_seen, groups, number};
 use crate::target::{Pair, Target};
-use crate::walk::{check_cycles, marked, reached};
+use crate::walk::{marked, reached};
 use indexmap::IndexSet;
 use ob_text::{Held, Name, NoMemory, Path, Text};
 use std::alloc::Global;
@@ -36,7 +38,8 @@ pub struct Workspace {
     pairs: Vec<Pair>,
     names: IndexSet<Name>,
     stems: IndexSet<Name>,
-    rows: Vec<Vec<Option<u32>>>,
+    groups: Vec<Vec<u32>>,
+    closures: Vec<Vec<bool>>,
 }
 
 impl Model for Workspace {
@@ -71,8 +74,8 @@ impl Workspace {
         requires { IsSound listing }
         ensures { (held : Held) → IsListing held listing → Accepts held root result }
     {
-        match check_cycles(alloc, listing.targets.as_slice()) {
-            Ok(()) => Workspace::of_acyclic(alloc, root, listing),
+        match closures(alloc, listing.targets.as_slice()) {
+            Ok(closures) => Workspace::of_acyclic(alloc, root, listing, closures),
             Err(refusal) => Err(refusal),
         }
     }
@@ -81,34 +84,35 @@ impl Workspace {
         alloc: Global,
         root: Root,
         listing: Listing,
+        closures: Vec<Vec<bool>>,
     ) -> Result<Workspace, WorkspaceRefusal>
-        requires { IsSound listing }
+        requires sound { IsSound listing }
+        requires closures { AreClosures listing.targets.items (lists closures) }
         ensures { (held : Held) → IsListing held listing → Passed held 7 → Accepts held root
             result }
     {
         let Listing { names, targets } = listing;
-        let Ok(pairs) = pairs_of(alloc, targets.as_slice()) else {
-            return Err(WorkspaceRefusal::NoMemory);
-        };
+        let pairs = pairs_of(alloc, targets.as_slice())?;
         let mut stems = IndexSet::new(alloc);
-        let Ok(numbers) = number(alloc, &mut stems, pairs.as_slice()) else {
-            return Err(WorkspaceRefusal::NoMemory);
-        };
-        match table(
+        let numbers = number(alloc, &mut stems, pairs.as_slice())?;
+        let groups = groups(alloc, numbers.as_slice(), stems.len())?;
+        match check_stems(
             alloc,
             targets.as_slice(),
+            closures.as_slice(),
             pairs.as_slice(),
             numbers.as_slice(),
-            stems.len(),
+            groups.as_slice(),
         ) {
-            Ok(rows) => Ok(Workspace {
+            Ok(()) => Ok(Workspace {
                 alloc,
                 root,
                 targets,
                 pairs,
                 names,
                 stems,
-                rows,
+                groups,
+                closures,
             }),
             Err(refusal) => Err(refusal),
         }
@@ -162,7 +166,11 @@ impl Workspace {
             pair)) }
     {
         match self.stems.get_index_of(name) {
-            Some(number) => self.rows[target as usize][number],
+            Some(number) => first_seen(
+                self.closures[target as usize].as_slice(),
+                self.pairs.as_slice(),
+                self.groups[number].as_slice(),
+            ),
             None => None,
         }
     }

@@ -1,6 +1,7 @@
 use Rattle.std.proofs.Common.{List, sym, subst, ◌∙◌, arith}
 use Rattle.target_graph.specs.declared.fault.FaultKind.TheVariants as kinds
 use Rattle.target_graph.specs.declared.target.Target.{Target}
+use Rattle.target_graph.specs.Closures.{AreClosures, lists}
 use Rattle.target_graph.specs.Faults.{IsFirstCycle}
 use Rattle.target_graph.specs.Walk.{AreClosed}
 use Rattle.target_graph.proofs.Refusals.{passed_more}
@@ -8,11 +9,14 @@ use Rattle.target_graph.proofs.PlainFaults.{refuses}
 use Rattle.target_graph.proofs.Sound.{targets_same}
 use Rattle.target_graph.proofs.workspace.Workspace.of_listing.Goals as goal
 
-pub check_cycles-requires : goal.check_cycles-requires
-check_cycles-requires c = subst AreClosed (sym c.as_slice.ensures.value) c.requires.closed
+pub closures-requires : goal.closures-requires
+closures-requires c = subst AreClosed (sym c.as_slice.ensures.value) c.requires.closed
 
 pub of_acyclic-requires : goal.of_acyclic-requires
-of_acyclic-requires c = c.requires
+of_acyclic-requires c = record {
+  sound = c.requires;
+  closures = subst (λ (ts : List Target). AreClosures ts (lists c.in-Ok.closures)) c.as_slice.ensures.value c.in-Ok.ensures.0;
+}
 
 pub returns-in-Ok : goal.returns-in-Ok
 returns-in-Ok c = λ held is.

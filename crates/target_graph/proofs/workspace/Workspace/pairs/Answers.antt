@@ -3,7 +3,6 @@ use Rattle.std.specs.List.{AllPairs}
 use Rattle.target_graph.specs.declared.target.Pair.{Pair}
 use Rattle.target_graph.specs.Workspace.{Space, pairs_of}
 use Rattle.target_graph.proofs.PairLaws.{pairs_within}
-use Rattle.target_graph.specs.Table.{lists}
 use Rattle.target_graph.proofs.Distinct.{AreApart, pairs_apart}
 use Rattle.target_graph.proofs.workspace.Workspace.pairs.Goals as goal
 
@@ -20,7 +19,6 @@ returns-clause-distinct c =
     let inside = c.self.inside in
     let s : Space = record { root = inside.root; targets = inside.targets.items } in
     let made : AllPairs (AreApart s) (pairs_of s.targets) =
-    pairs_apart s inside.stems.keys kept.numbers (length inside.stems.keys) (lists inside.rows)
-    (subst (λ (names : List (List ℕ)). AllPairs ◌≢◌ names) kept.sound.names kept.sound.distinct) kept.numbered kept.table in
+    pairs_apart s (subst (λ (names : List (List ℕ)). AllPairs ◌≢◌ names) kept.sound.names kept.sound.distinct) kept.once in
     subst (λ (w : Space). AllPairs (AreApart w) c.as_slice.result.now) c.self.view_is
     (subst (λ (xs : List Pair). AllPairs (AreApart s) xs) (sym (c.as_slice.ensures.value ∙ kept.pairs)) made)

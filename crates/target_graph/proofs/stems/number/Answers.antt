@@ -3,9 +3,9 @@ use Rattle.std.proofs.lemmas.List.{map_more, take_all}
 use Rattle.target_graph.specs.declared.target.Pair.{Pair}
 use Rattle.target_graph.specs.Names.{stem}
 use Rattle.target_graph.specs.Workspace.{stems_of}
-use Rattle.target_graph.specs.Table.{IsNumbered, IsNumbering}
+use Rattle.target_graph.specs.Stems.{IsNumbered, IsNumbering}
 use Rattle.target_graph.proofs.Numbers.{number_none, number_more}
-use Rattle.target_graph.proofs.table.number.Goals as goal
+use Rattle.target_graph.proofs.stems.number.Goals as goal
 
 pub loop-pair-init : goal.loop-pair-init
 loop-pair-init c = (

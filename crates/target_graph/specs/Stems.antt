@@ -1,12 +1,9 @@
--- The table of what each target's modules see: a row for each target, and in it a place for each stem.
-use Rattle.std.specs.Prelude.{◌≡◌, ◌≢◌, ℕ, ◌+◌, ◌<◌, ◌≤◌, Bool, true, List, [], ◌++◌, length, Option, Some, None, Vec, map}
+-- The stems of the modules by number, and the pairs that have each.
+use Rattle.std.specs.Prelude.{◌≡◌, ◌≢◌, ℕ, ◌+◌, ◌<◌, ◌≤◌, Bool, true, List, [], ◌++◌, length, Some, Contains}
 use Rattle.std.specs.List.{slice_get, slice_index, slice_index_or, AllPairs}
-use Rattle.std.specs.declared.alloc.Global.{Global}
 use Rattle.target_graph.specs.declared.target.Pair.{Pair}
-use Rattle.target_graph.specs.declared.target.Target.{Target}
 use Rattle.target_graph.specs.Names.{stem}
 use Rattle.target_graph.specs.Walk.{has_met}
-use Rattle.target_graph.specs.Workspace.{Sees}
 
 -- the number of a text among the keys, which it may be put behind
 pub record IsNumbered (old new : List (List ℕ)) (text : List ℕ) (n : ℕ) : Type 0 where
@@ -30,11 +27,6 @@ pub record IsSeen (marks : List Bool) (pairs : List Pair) (q : ℕ) : Type 0 whe
   pub there : slice_get pairs q ≡ Some pair
   pub is_marked : has_met marks pair.target ≡ true
 
--- a row that shows the marked ones of the first q pairs, each at its number
-pub record IsRow (marks : List Bool) (pairs : List Pair) (numbers : List ℕ) (q : ℕ) (row : List (Option ℕ)) : Type 0 where
-  pub shown : (n p : ℕ) → slice_index_or row n None ≡ Some p → (p < q) × IsSeen marks pairs p × (slice_index numbers p ≡ n)
-  pub whole : (p : ℕ) → p < q → IsSeen marks pairs p → slice_index_or row (slice_index numbers p) None ≡ Some p
-
 -- a marked pair has the number of an earlier one
 pub record IsTwice (marks : List Bool) (pairs : List Pair) (numbers : List ℕ) (q : ℕ) : Type 0 where
   pub earlier : ℕ
@@ -52,18 +44,14 @@ pub record IsFirstTwice (marks : List Bool) (pairs : List Pair) (numbers : List 
   pub twice : IsTwice marks pairs numbers place
   pub first : (q : ℕ) → q < place → ¬ (IsTwice marks pairs numbers q)
 
--- the table shows what each target sees, and nothing else
-pub record IsTable (targets : List Target) (numbers : List ℕ) (width : ℕ) (rows : List (List (Option ℕ))) : Type 0 where
-  pub size : length rows ≡ length targets
-  pub wide : (t : ℕ) → t < length targets → length (slice_index_or rows t []) ≡ width
-  pub shown : (t n p : ℕ) → t < length targets → slice_index_or (slice_index_or rows t []) n None ≡ Some p → Sees targets t p × (slice_index numbers p ≡ n)
-  pub whole : (t p : ℕ) → t < length targets → Sees targets t p → slice_index_or (slice_index_or rows t []) (slice_index numbers p) None ≡ Some p
+-- the places of the pairs that have each number
+pub record AreGroups (numbers : List ℕ) (width : ℕ) (groups : List (List ℕ)) : Type 0 where
+  pub size : length groups ≡ width
+  pub each : (n q : ℕ) → Contains (slice_index_or groups n []) q → (q < length numbers) × (slice_index numbers q ≡ n)
+  pub whole : (q : ℕ) → q < length numbers → Contains (slice_index_or groups (slice_index numbers q) []) q
 
 -- the texts have numbers below the width
 pub record HasNumbers (texts : List (List ℕ)) (numbers : List ℕ) (width : ℕ) : Type 0 where
   pub keys : List (List ℕ)
   pub size : length keys ≡ width
   pub numbered : IsNumbering texts keys numbers
-
-abbrev pub lists : Vec (Vec (Option ℕ) Global) Global → List (List (Option ℕ))
-lists rows = map (λ row. row.items) rows.items

@@ -1,5 +1,5 @@
 use Rattle.target_graph.proofs.Numbers.{numbered}
-use Rattle.target_graph.proofs.table.number_of.Goals as goal
+use Rattle.target_graph.proofs.stems.number_of.Goals as goal
 
 pub returns : goal.returns
 returns c =

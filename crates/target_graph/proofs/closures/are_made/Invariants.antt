@@ -1,0 +1,6 @@
+use Rattle.std.proofs.Common.{take, All}
+use Rattle.target_graph.specs.Closures.{IsMade, lists_of}
+use Rattle.target_graph.proofs.closures.are_made.Given as goal
+
+abbrev pub invariant-loop-place : goal.invariant-loop-place
+invariant-loop-place l = All (IsMade (lists_of l.rows)) (take l.place-index l.places)

@@ -1,0 +1,6 @@
+use Rattle.std.proofs.Common.{take}
+use Rattle.target_graph.specs.Closures.{IsJoined, lists_of}
+use Rattle.target_graph.proofs.closures.joined.Given as goal
+
+abbrev pub invariant-loop-other : goal.invariant-loop-other
+invariant-loop-other l = IsJoined (lists_of l.rows) l.place (take l.other-index l.places) l.row.items

@@ -1,0 +1,9 @@
+use Rattle.std.proofs.Common.{◌≡◌, ℕ, ◌<◌, length}
+use Rattle.target_graph.specs.Stems.{IsTwice}
+use Rattle.target_graph.proofs.SeenStems.{IsSeenTo}
+use Rattle.target_graph.proofs.stems.check_row.Given as goal
+
+abbrev pub invariant-loop-place : goal.invariant-loop-place
+invariant-loop-place l =
+    (length l.seen.items ≡ l.width) × IsSeenTo l.marks l.pairs l.numbers l.place l.seen.items
+    × ((q : ℕ) → q < l.place → ¬ (IsTwice l.marks l.pairs l.numbers q))
