@@ -13,7 +13,7 @@ use Rattle.session_law.specs.Lawful.{Lawful, EachAllowed, IsFramed}
 use Rattle.session_law.specs.Methods.{Verdict, asking, building, unreadable, verdict}
 use Rattle.session_law.specs.Order.{Entries, Event, take, ends, hand, write}
 use Rattle.session_law.specs.Past.{WantedBy, handed_over, handed_by, exit_status, opened_by, nulls_for, nulls_for_end, end_status}
-use Rattle.session_core.specs.Acting.{answer_unread, answered, paths_in, Answers, AnswersAs, Builds, BuildsOn, Steps, Serves, Acts, ActsOnHand, Ends, status_by}
+use Rattle.session_core.specs.Acting.{answer_unread, answered, paths_in, Answers, AnswersAs, Builds, BuildsOn, Steps, Serves, Acts, ActsOnHand, Ends, exited_by}
 use Rattle.session_core.specs.Judging.{answer_to, IsSaidOwed, Judges}
 use Rattle.session_core.specs.Plans.{Plan, build_in}
 use Rattle.session_core.specs.State.{Base, State, base_of, state_of, asked_by, owed, handed_of, workspace_need}
@@ -133,9 +133,9 @@ module _ (old new : Core) (order : List Event) (quiet : old.out.items ≡ []) (a
         by_owed (take body) id (verdict method params base.force base.closed) acts.owed acts.judged acts.short acts.named owes acts.serves
     acted body (Ok (notification method params)) means acts =
         let owes = taken base order keeps.lawful rests body (Ok (notification method params)) means in
-        steps old new _ [] (take body ∷ order) acts quiet alive (subst (λ state. Keeps false (record state { status = status_by method old.closed old.status }) (take body ∷ order)) (sym state_is)
-        (subst (λ status. Keeps false (idle base (status_by method old.closed status)) (take body ∷ order)) (sym none)
-        (gives_none base (status_by method old.closed None) (take body ∷ order) owes)))
+        steps old new _ [] (take body ∷ order) acts quiet alive (subst (λ state. Keeps false (record state { status = exited_by method old.closed old.status }) (take body ∷ order)) (sym state_is)
+        (subst (λ status. Keeps false (idle base (exited_by method old.closed status)) (take body ∷ order)) (sym none)
+        (gives_none base (exited_by method old.closed None) (take body ∷ order) owes)))
     acted body (Ok (result id value)) means acts =
         let owes = taken base order keeps.lawful rests body (Ok (result id value)) means in
         steps old new _ [] (take body ∷ order) acts quiet alive (subst (λ state. Keeps false state (take body ∷ order)) (sym state_is) (gives_none base None (take body ∷ order) owes))

@@ -83,8 +83,8 @@ abbrev pub AnswersUnread : Core → Core → ℤ → Type 0
 AnswersUnread old new code = Steps old new (state_of old) (answer_unread code ∷ []) × IsFramed (answer_unread code)
 
 -- the status once a notification of this method was taken
-abbrev pub status_by : List ℕ → Bool → Option ℕ → Option ℕ
-status_by method closed status = if is_named (codes "build/exit") method then Some (if closed then 0 else 1) else status
+abbrev pub exited_by : List ℕ → Bool → Option ℕ → Option ℕ
+exited_by method closed status = if is_named (codes "build/exit") method then Some (if closed then 0 else 1) else status
 
 -- the core acts on a request that is owed this
 pub record ServesAs (old new : Core) (id : Id) (v : Verdict) : Type 0 where
@@ -98,7 +98,7 @@ pub record ServesAs (old new : Core) (id : Id) (v : Verdict) : Type 0 where
 abbrev pub Acts : Core → Core → Result Said ℤ → Type 0
 Acts old new (Ok (request id method params)) = ServesAs old new id (verdict method params old.workspace old.closed)
 Acts old new (Ok (notification method params)) =
-    Steps old new (record (state_of old) { status = status_by method old.closed old.status }) []
+    Steps old new (record (state_of old) { status = exited_by method old.closed old.status }) []
 Acts old new (Ok (result id value)) = Steps old new (state_of old) []
 Acts old new (Ok (failure id code text)) = Steps old new (state_of old) []
 Acts old new (Err code) = AnswersUnread old new code

@@ -4,7 +4,7 @@ use Rattle.std.specs.List.{All, AllPairs}
 use Rattle.std.specs.Option.{IfSome}
 use Rattle.bsp_records.specs.Shapes.{IsTextWithin}
 use Rattle.bsp_records.specs.declared.kinds.TheConstants.{ORIGIN_LIMIT}
-use Rattle.session_build.specs.Placed.{IsPlain}
+use Rattle.session_build.specs.Placed.{IsPlain, build_of}
 use Rattle.session_core.specs.declared.planned.Planned.TheInside.{Inside}
 use Rattle.session_law.specs.Methods.{Build}
 use Rattle.session_law.specs.declared.Place.{Place}
@@ -27,4 +27,4 @@ pub record IsSound (plan : Plan) : Type 0 where
 
 -- the build that the law speaks of
 abbrev pub build_in : Space → Plan → Build
-build_in space plan = record { space = space; asked = plan.asked; origin = plan.origin }
+build_in space plan = build_of space plan.asked plan.origin

@@ -49,7 +49,7 @@ impl Core {
     ghost use Rattle.session_law.specs.Lawful.{IsFramed};
     ghost use Rattle.session_law.specs.Methods.{asking, unreadable, verdict};
     ghost use Rattle.session_law.specs.Order.{Event, take, ends, hand, write};
-    ghost use Rattle.session_core.specs.Acting.{Acts, ActsOnHand, Answers, AnswersUnread, Asks, Builds, BuildsOn, Ends, Plans, ServesAs, AnswersAs, Steps, Tells, status_by};
+    ghost use Rattle.session_core.specs.Acting.{Acts, ActsOnHand, Answers, AnswersUnread, Asks, Builds, BuildsOn, Ends, Plans, ServesAs, AnswersAs, Steps, Tells, exited_by};
     ghost use Rattle.session_core.specs.Reading.{AreReadable};
     ghost use Rattle.session_core.specs.Standing.{StandsFor, Awaits, Suits, IsFree, NeedsNothing, NeedsWhatItAwaits, IsQuiet, IsAlive, status_of, left_to_write};
     ghost use Rattle.session_core.specs.State.{handed_of, paths_of, state_of};
@@ -357,7 +357,7 @@ impl Core {
     fn heed(&mut self, method: &[u8])
         ensures same { self.new.out.items ≡ self.old.out.items }
         ensures steps { Steps self.old self.new
-            (record (state_of self.old) { status = status_by method.now self.old.closed self.old.status }) [] }
+            (record (state_of self.old) { status = exited_by method.now self.old.closed self.old.status }) [] }
     {
         if EXIT == method {
             self.status = Some(if self.closed { 0 } else { 1 });
