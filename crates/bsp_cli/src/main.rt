@@ -19,6 +19,7 @@ use bsp_edge::{FolderTree, RealSink, StdinSource};
 use ob_text::{NoMemory, Text};
 use std::alloc::Global;
 use std::env;
+use std::io::ErrorKind;
 use std::process::ExitCode;
 use std::rt::Env;
 
@@ -64,14 +65,21 @@ fn folder_of(alloc: Global, words: &[Text]) -> Result<Text, NoMemory>
     }
 }
 
-// The words of the command line, without the program's own name.
+// The words of the command line, without the program's own name. Where one of them isn't UTF-8 there
+// are none, so that the usage is told.
 fn program_words(rt: &(impl Env + AllocGlobal)) -> Result<Vec<Text>, NoMemory> {
     let mut words = Vec::new(rt.alloc());
-    let Ok(arguments) = env::args(rt) else {
-        return Err(NoMemory);
-    };
-    for word in arguments.skip(1) {
-        words.push(Text::from_vec(word.into_bytes()))?;
+    match env::args(rt) {
+        Ok(arguments) => {
+            for word in arguments.skip(1) {
+                words.push(Text::from_vec(word.into_bytes()))?;
+            }
+        }
+        Err(error) => {
+            if error.kind() == ErrorKind::OutOfMemory {
+                return Err(NoMemory);
+            }
+        }
     }
     Ok(words)
 }
