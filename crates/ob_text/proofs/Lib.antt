@@ -1,4 +1,6 @@
+pub mod AsciiLaws
 pub mod Characters
+pub mod Documents
 mod Holding
 mod Positions
 mod Units

@@ -1,4 +1,4 @@
-ghost use Rattle.std.specs.Prelude.{◌≡◌, ◌==◌, ◌↔◌, List, ℕ, IfOk, IsTrue};
+ghost use Rattle.std.specs.Prelude.{◌≡◌, ◌==◌, ◌↔◌, ◌++◌, List, ℕ, IfOk, IsTrue};
 ghost use Rattle.std.proofs.Common.{rules};
 ghost use Rattle.std.specs.Hash as fed;
 ghost use Rattle.std.specs.Cmp.Rules.{comparing, hashing};
@@ -75,6 +75,15 @@ impl<K> Bytes<K> {
         self.items.as_slice()
     }
 
+    /// These bytes, and then others.
+    pub fn followed_by(self, more: &[u8]) -> Result<Bytes<K>, NoMemory>
+        ensures { IfOk result (λ b. b ≡ self ++ more.now) }
+    {
+        let mut items = self.into_vec();
+        items.extend_from_slice(more)?;
+        Ok(Bytes::from_vec(items))
+    }
+
     /// An equal value of its own.
     pub fn copy(&self, alloc: Global) -> Result<Bytes<K>, NoMemory>
         ensures { IfOk result (λ b. b ≡ self.now) }
@@ -123,6 +132,7 @@ mod tests {
             b"A.Mod".as_slice()
         );
         assert!(rt; Text::new(alloc, b"a")? != Text::new(alloc, b"b")?);
+        assert!(rt; Text::new(alloc, b"ab")?.followed_by(b"c")? == Text::new(alloc, b"abc")?);
         let mut names = HashSet::new(alloc);
         names.insert(Name::new(alloc, b"app")?)?;
         assert!(rt; names.contains(&Name::new(alloc, b"app")?));

@@ -1,12 +1,13 @@
 ghost use Rattle.std.specs.Prelude.{◌≡◌, ◌≢◌, ◌↔◌, IfOk, IsNone};
 ghost use Rattle.std.specs.Option.{option_copied};
 ghost use Rattle.std.specs.List.{All};
-ghost use Rattle.ob_text.specs.Held.{held_at};
+ghost use Rattle.ob_text.specs.Held.{held_at, held_of, IsReadable};
 
 use crate::bytes::{Path, Text};
 use crate::items::Items;
 use crate::no_memory::NoMemory;
 use std::alloc::Global;
+use std::str;
 
 /// The most bytes that a document may have. A longer one is `Held::TooLarge`.
 pub const TEXT_LIMIT: usize = 262_144;
@@ -25,6 +26,21 @@ pub enum Held {
 }
 
 impl Held {
+    /// What is held where a file has these bytes. Takes no memory.
+    #[tactic(auto, using(crate::proofs::Documents::not_utf8, crate::proofs::Documents::is_utf8_true, crate::proofs::Documents::held_readable))]
+    pub fn from_bytes(bytes: Vec<u8>) -> Held
+        ensures held { result ≡ held_of bytes.items }
+        ensures readable { IsReadable result }
+    {
+        if bytes.len() > TEXT_LIMIT {
+            Held::TooLarge
+        } else if str::from_utf8(bytes.as_slice()).is_ok() {
+            Held::Text(Text::from_vec(bytes))
+        } else {
+            Held::NotText
+        }
+    }
+
     /// An equal value of its own.
     pub fn copy(&self, alloc: Global) -> Result<Held, NoMemory>
         ensures { IfOk result (λ held. held ≡ self.now) }
@@ -63,6 +79,30 @@ impl Snapshot {
 mod tests {
     use crate::{Held, Items, Path, Snapshot, Text};
     use std::test::Fail;
+
+    /// A byte, how many of it a file has, and what is held there.
+    const FILES: [(u8, usize, &str); 6] = [
+        (b'$', 0, "text"),
+        (b'$', 262_144, "text"),
+        (b'$', 262_145, "too large"),
+        (255, 1, "not text"),
+        (255, 262_144, "not text"),
+        (255, 262_145, "too large"),
+    ];
+
+    #[test]
+    fn holds_what_files_have(rt: HostRuntime) -> Result<(), Fail> {
+        for (byte, count, want) in FILES {
+            let got = match Held::from_bytes(vec![in rt.alloc(); byte; count]?) {
+                Held::Text(_) => "text",
+                Held::Absent => "absent",
+                Held::TooLarge => "too large",
+                Held::NotText => "not text",
+            };
+            assert_eq!(rt; got, want, "{count} bytes of {byte}");
+        }
+        Ok(())
+    }
 
     #[test]
     fn gives_what_was_held(rt: HostRuntime) -> Result<(), Fail> {
