@@ -24,7 +24,11 @@ IsReadable NotText = Unit {0}
 abbrev pub held_of : List ℕ → Held
 held_of bytes = if nat_lt text_limit (length bytes) then TooLarge else (if is_utf8 bytes then Text bytes else NotText)
 
+-- the entries of a snapshot: a path, and what was held there
+abbrev pub Entries : Type 0
+Entries = List (List ℕ × Held)
+
 -- the first entry of a path counts
-abbrev pub held_at : List (List ℕ × Held) → List ℕ → Option Held
+abbrev pub held_at : Entries → List ℕ → Option Held
 held_at [] path = None
 held_at (entry ∷ entries) path = if bytes_eq entry.0 path then Some entry.1 else held_at entries path

@@ -2,7 +2,7 @@
 use Rattle.std.proofs.Common.{◌≡◌, ◌≢◌, ℕ, ◌+◌, ◌-◌, ◌*◌, ◌<◌, ◌⊎◌, inl, inr, Bool, true, false, ◌&&◌, eqb, nat_lt, Option, Some, None, List, [], ◌∷◌, ◌++◌, length, sym, ◌∙◌, ap, subst, refl, arith, append_assoc}
 use Rattle.std.proofs.lemmas.Bool.{and_left, and_right, cond-true, cond-false, cond_both, cases_Bool, cases_eq, both_ways, false_from_ne_true, eqb-true, eq-eqb, ne_eqb, lt-ltb, le-ltb}
 use Rattle.std.specs.Char.{is_ascii_digit}
-use Rattle.rpc_frame.specs.declared.TheConstants.{CONTENT_LIMIT}
+use Rattle.rpc_frame.specs.Limits.{content_limit}
 use Rattle.rpc_frame.specs.declared.damage.DamageKind.{DamageKind}
 use Rattle.rpc_frame.specs.declared.damage.DamageKind.TheVariants.{BadLine, TwoLengths, BadLength, TooLong, NoLength, HeaderTooLong, Truncated}
 use Rattle.rpc_frame.specs.declared.head.Spot.{Spot}
@@ -102,7 +102,7 @@ spot_in_value Value size b h passes =
 spot_in_value (Digits count number) size b h passes =
     let going : b ≡ 13 → ⊥ = λ e. both_ways (value_byte b) (ap value_byte e ∙ value_no_return) passes in
     cond_both (is_ascii_digit b) _ _ IsInValue
-    (λ _. cond_both (eqb count 8) _ _ IsInValue (λ _. tt) (λ _. cond_both (nat_lt CONTENT_LIMIT (10 * number + (b - 48))) _ _ IsInValue (λ _. tt) (λ _. tt)))
+    (λ _. cond_both (eqb count 8) _ _ IsInValue (λ _. tt) (λ _. cond_both (nat_lt content_limit (10 * number + (b - 48))) _ _ IsInValue (λ _. tt) (λ _. tt)))
     (λ _. cond_both (eqb b 13) _ _ IsInValue (λ ends. absurd (going (eqb-true b 13 ends)))
     (λ _. cond_both (blank_byte b) _ _ IsInValue (λ _. cond_both (eqb count 0) _ _ IsInValue (λ _. tt) (λ _. tt)) (λ _. other_in_value b)))
 spot_in_value (Behind number) size b h passes =
@@ -229,7 +229,7 @@ figure_leads count number size d ds head digit =
     cond_both (is_ascii_digit d) _ _ (λ n. run n ds ≡ On head → n ≡ on size (Digits (count + 1) (10 * number + (d - 48))))
     (λ _. cond_both (eqb count 8) _ _ (λ n. run n ds ≡ On head → n ≡ on size (Digits (count + 1) (10 * number + (d - 48))))
     (λ _ e. absurd (bad_goes_nowhere BadLength ds head e))
-    (λ _. cond_both (nat_lt CONTENT_LIMIT (10 * number + (d - 48))) _ _ (λ n. run n ds ≡ On head → n ≡ on size (Digits (count + 1) (10 * number + (d - 48))))
+    (λ _. cond_both (nat_lt content_limit (10 * number + (d - 48))) _ _ (λ n. run n ds ≡ On head → n ≡ on size (Digits (count + 1) (10 * number + (d - 48))))
     (λ _ e. absurd (bad_goes_nowhere TooLong ds head e))
     (λ _ e. refl)))
     (λ other. absurd (both_ways (is_ascii_digit d) other digit))
@@ -297,16 +297,16 @@ behind_breaks line b head r leads =
     (sym after ∙ ap (λ n. run n h.after) here ∙ sym (run_on (on None (Field 0)) (On front.head) h.front h.after front.on) ∙ whole)
     (behind_stops (number_behind 0 h.digits) b r.other.0 r.other.1)
 
-limit_stops : (count number b : ℕ) → count < 8 → is_ascii_digit b ≡ true → CONTENT_LIMIT < 10 * number + (b - 48) → digits_next count number None b ≡ Bad TooLong
+limit_stops : (count number b : ℕ) → count < 8 → is_ascii_digit b ≡ true → content_limit < 10 * number + (b - 48) → digits_next count number None b ≡ Bad TooLong
 unfolding digits_next figure_next
 limit_stops count number b few digit large =
     cond-true (is_ascii_digit b) _ _ digit ∙ cond-false (eqb count 8) _ _ (ne_eqb count 8 (λ e. omega arith))
-    ∙ cond-true (nat_lt CONTENT_LIMIT (10 * number + (b - 48))) _ _ (lt-ltb CONTENT_LIMIT (10 * number + (b - 48)) large)
+    ∙ cond-true (nat_lt content_limit (10 * number + (b - 48))) _ _ (lt-ltb content_limit (10 * number + (b - 48)) large)
 
 limit_breaks : (line : List ℕ) (b : ℕ) (head : Head) → PassesLimit line b → LeadsTo None line head → Stops head b TooLong
 limit_breaks line b head r leads =
     stops_at head None (Digits (length r.digits) (number_behind 0 r.digits)) b TooLong (in_digits line r.digits head r.stands leads)
-    (limit_stops (length r.digits) (number_behind 0 r.digits) b r.few r.digit (subst (λ n. CONTENT_LIMIT < n) (number_behind-append 0 r.digits (b ∷ [])) r.large))
+    (limit_stops (length r.digits) (number_behind 0 r.digits) b r.few r.digit (subst (λ n. content_limit < n) (number_behind-append 0 r.digits (b ∷ [])) r.large))
 
 no_length : (line : List ℕ) (b : ℕ) (head : Head) → line ≡ [] → b ≡ 13 → LeadsTo None line head → Stops head b NoLength
 no_length line b head none closing leads =

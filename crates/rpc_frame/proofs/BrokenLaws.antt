@@ -2,7 +2,7 @@
 use Rattle.std.proofs.Common.{◌≡◌, ℕ, ◌+◌, ◌-◌, ◌<◌, ◌⊎◌, ◌↔◌, inl, inr, None, List, [], ◌∷◌, ◌++◌, sym, subst, refl, arith, append_assoc}
 use Rattle.std.proofs.lemmas.Bool.{cases_lt}
 use Rattle.std.proofs.lemmas.List.{append-nil, length_push}
-use Rattle.rpc_frame.specs.declared.TheConstants.{HEADER_LIMIT}
+use Rattle.rpc_frame.specs.Limits.{header_limit}
 use Rattle.rpc_frame.specs.declared.damage.DamageKind.{DamageKind}
 use Rattle.rpc_frame.specs.declared.damage.DamageKind.TheVariants.{HeaderTooLong}
 use Rattle.rpc_frame.specs.declared.head.Spot.TheVariants.{Field}
@@ -27,7 +27,7 @@ record Stepping (offset : ℕ) (part : List ℕ) : Type 0 where
   pub step : Step
   pub makes : Makes offset step part
 
-header_step : (offset came : ℕ) (head : Head) (part : List ℕ) (b : ℕ) → IsInHeader came head part → came < HEADER_LIMIT → (n : Next) → spot_next head.spot head.size b ≡ n → Stepping offset (part ++ b ∷ [])
+header_step : (offset came : ℕ) (head : Head) (part : List ℕ) (b : ℕ) → IsInHeader came head part → came < header_limit → (n : Next) → spot_next head.spot head.size b ≡ n → Stepping offset (part ++ b ∷ [])
 header_step offset came head part b r inside (On next) e = record { step = Inside (Header (came + 1) next); makes = header_goes_on came head next part b r inside e }
 header_step offset came head part b r inside (Closed size) e = elim (cases_lt 0 size) [
   | inl some ↦ record { step = Inside (Content (came + 1) size size); makes = header_opens came head size part b r inside e some }
@@ -39,7 +39,7 @@ header_step offset came head part b r inside (Bad kind) e = record {
 }
 
 byte_step : (offset : ℕ) (reading : Reading) (part : List ℕ) (b : ℕ) → Reads offset reading part → Stepping offset (part ++ b ∷ [])
-byte_step offset (Header came head) part b r = elim (cases_lt came HEADER_LIMIT) [
+byte_step offset (Header came head) part b r = elim (cases_lt came header_limit) [
   | inl inside ↦ header_step offset came head part b r inside (spot_next head.spot head.size b) refl
   | inr full ↦ record {
     step = Inside (Broken (record { place = offset + came; kind = HeaderTooLong }));

@@ -3,7 +3,7 @@
 use Rattle.std.proofs.Common.{◌≡◌, ℕ, ◌+◌, ◌≤◌, inl, inr, List, [], ◌∷◌, ◌++◌, length, sym, ◌∙◌, ap, subst, refl, arith, append_assoc, length-append}
 use Rattle.std.proofs.lemmas.List.{append-nil, append_cancel_left}
 use Rattle.std.specs.List.{flat_map}
-use Rattle.rpc_frame.specs.declared.TheConstants.{HEADER_LIMIT}
+use Rattle.rpc_frame.specs.Limits.{header_limit}
 use Rattle.rpc_frame.specs.declared.damage.Damage.{Damage}
 use Rattle.rpc_frame.specs.declared.damage.DamageKind.{DamageKind}
 use Rattle.rpc_frame.specs.declared.head.Spot.TheVariants.{Field}
@@ -89,7 +89,7 @@ pub record LeadsOn (part : List ℕ) : Type 0 where
 -- bytes with a whole header part begin a frame, or they are one, or they break with no byte
 over_goes_on : (part : List ℕ) (b : ℕ) (w : BeginsFrame part) (mid : List ℕ) → HasNoFrame part → part ≡ w.header ++ mid → w.body ≡ mid ++ w.more → BeginsFrame (part ++ b ∷ [])
 over_goes_on part b w mid none e rest = by_more w.more rest where
-  short : length w.header ≤ HEADER_LIMIT
+  short : length w.header ≤ header_limit
   short = elim w.limit [ inl h ↦ omega (arith, h, ap length e, length-append w.header mid) | inr h ↦ h ]
 
   by_more : (more : List ℕ) → w.body ≡ mid ++ more → BeginsFrame (part ++ b ∷ [])

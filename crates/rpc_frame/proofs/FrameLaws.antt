@@ -1,7 +1,7 @@
 -- The laws of streams of frames.
 use Rattle.std.proofs.Common.{◌≡◌, ℕ, ◌<◌, ◌≤◌, inl, inr, List, [], ◌∷◌, ◌++◌, length, replicate, sym, ◌∙◌, ap, subst, refl, arith, append_assoc, length-append}
 use Rattle.std.proofs.lemmas.List.{append-nil, length-replicate, nil_from_length}
-use Rattle.rpc_frame.specs.declared.TheConstants.{HEADER_LIMIT}
+use Rattle.rpc_frame.specs.Limits.{header_limit}
 use Rattle.rpc_frame.specs.declared.head.Head.{Head}
 use Rattle.rpc_frame.specs.declared.head.Next.TheVariants.{On, Closed}
 use Rattle.rpc_frame.specs.Frames.{NeverBegins, IsHeader, IsFrame, BeginsFrame, BeginsWith, FramesTo, HasNoFrame, Frames, IsBorder, IsSound, IsBroken}
@@ -77,7 +77,7 @@ closed_some bytes [] head size on closed = let e = sym on ∙ sym (ap reading (a
 closed_some bytes (c ∷ more) head size on closed = omega arith
 
 -- A part of a header part is one, unless it is too long.
-pub on_cut : (bytes : List ℕ) (head : Head) → reading bytes ≡ On head → length bytes ≤ HEADER_LIMIT → IsCut bytes
+pub on_cut : (bytes : List ℕ) (head : Head) → reading bytes ≡ On head → length bytes ≤ header_limit → IsCut bytes
 on_cut bytes head e limit =
     let r = reads_on_header bytes head e in
     record {

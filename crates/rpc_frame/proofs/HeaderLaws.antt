@@ -2,7 +2,7 @@
 use Rattle.std.proofs.Common.{◌≡◌, ℕ, ◌<◌, ◌≤◌, ◌⊎◌, inl, inr, List, [], ◌∷◌, ◌++◌, length, take, drop, sym, ◌∙◌, ap, refl, arith, append_assoc, length-append}
 use Rattle.std.proofs.lemmas.List.{append-nil, take_at, drop_at}
 use Rattle.std.specs.List.{flat_map}
-use Rattle.rpc_frame.specs.declared.TheConstants.{CONTENT_LIMIT}
+use Rattle.rpc_frame.specs.Limits.{content_limit}
 use Rattle.rpc_frame.specs.declared.damage.DamageKind.{DamageKind}
 use Rattle.rpc_frame.specs.declared.damage.DamageKind.TheVariants.{Truncated}
 use Rattle.rpc_frame.specs.declared.head.Head.{Head}
@@ -73,11 +73,11 @@ pub header_some : (header : List ℕ) (size : ℕ) → IsHeader header size → 
 header_some header size h = omega (arith, ap length h.whole, length-append (flat_map line_text h.lines) (13 ∷ (10 ∷ [])))
 
 -- A header part says no size above the limit.
-pub lines_limit : (lines : List HeaderLine) (size : ℕ) → OneLength lines size → size ≤ CONTENT_LIMIT
+pub lines_limit : (lines : List HeaderLine) (size : ℕ) → OneLength lines size → size ≤ content_limit
 lines_limit [] size h = absurd h
 lines_limit (l ∷ ls) size h = elim h [ inl p ↦ p.1.sized.limit | inr p ↦ lines_limit ls size p.1 ]
 
-pub header_limit : (header : List ℕ) (size : ℕ) → IsHeader header size → size ≤ CONTENT_LIMIT
+pub header_limit : (header : List ℕ) (size : ℕ) → IsHeader header size → size ≤ content_limit
 header_limit header size h = lines_limit h.lines size h.once
 
 pub frame_some : (frame body : List ℕ) → IsFrame frame body → 0 < length frame

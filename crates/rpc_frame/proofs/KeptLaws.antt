@@ -1,7 +1,7 @@
 -- What the calls of a decoder need of the bytes that it keeps.
 use Rattle.std.proofs.Common.{◌≡◌, ℕ, ◌+◌, ◌-◌, ◌≤◌, Bool, true, false, IsTrue, List, [], ◌∷◌, ◌++◌, length, take, drop, sym, ◌∙◌, ap, subst, refl, arith, length-drop}
 use Rattle.std.proofs.lemmas.List.{drop-append-le, drop-drop}
-use Rattle.rpc_frame.specs.declared.TheConstants.{CONTENT_LIMIT}
+use Rattle.rpc_frame.specs.Limits.{content_limit}
 use Rattle.rpc_frame.specs.declared.reading.Reading.{Reading}
 use Rattle.rpc_frame.specs.declared.reading.Mark.{Mark}
 use Rattle.rpc_frame.specs.Frames.{BeginsWith, HasNoFrame}
@@ -49,7 +49,7 @@ none_left from reading (m ∷ ms) b none s = absurd (omega arith)
 pub record NextFrame (from : ℕ) (reading : Reading) (k : Mark) (ms : List Mark) (start : ℕ) (bytes : List ℕ) : Type 0 where
   pub fits : start + (k.header + k.content) ≤ length bytes
   pub begins : BeginsWith (drop start bytes) (take k.content (drop k.header (drop start bytes))) (drop (start + (k.header + k.content)) bytes)
-  pub limit : k.content ≤ CONTENT_LIMIT
+  pub limit : k.content ≤ content_limit
   pub others : Scanned (from + (k.header + k.content)) reading ms (drop (start + (k.header + k.content)) bytes)
 
 pub next_frame : (from : ℕ) (reading : Reading) (k : Mark) (ms : List Mark) (start : ℕ) (bytes : List ℕ) → start ≤ length bytes → FirstFrame from reading k ms (drop start bytes) → NextFrame from reading k ms start bytes

@@ -1,7 +1,7 @@
 -- What a part of a frame is, and what more bytes make of it.
 use Rattle.std.proofs.Common.{◌≡◌, ℕ, ◌+◌, ◌-◌, ◌<◌, ◌≤◌, inl, inr, List, [], ◌∷◌, ◌++◌, length, sym, ◌∙◌, ap, subst, refl, arith, append_assoc, length-append}
 use Rattle.std.proofs.lemmas.List.{append-nil, length_push}
-use Rattle.rpc_frame.specs.declared.TheConstants.{HEADER_LIMIT}
+use Rattle.rpc_frame.specs.Limits.{header_limit}
 use Rattle.rpc_frame.specs.declared.damage.Damage.{Damage}
 use Rattle.rpc_frame.specs.declared.damage.DamageKind.{DamageKind}
 use Rattle.rpc_frame.specs.declared.damage.DamageKind.TheVariants.{Truncated}
@@ -18,7 +18,7 @@ use Rattle.rpc_frame.proofs.HeaderLaws.{GoesOver, fronts, stands, on_no_header, 
 use Rattle.rpc_frame.proofs.FrameLaws.{zeros, length-zeros, IsCut, on_cut, cut_no_frame, begins_sound, never_broken, never_more}
 
 -- One byte more of a header part.
-pub header_goes_on : (came : ℕ) (head next : Head) (p : List ℕ) (b : ℕ) → IsInHeader came head p → came < HEADER_LIMIT → spot_next head.spot head.size b ≡ On next → IsInHeader (came + 1) next (p ++ b ∷ [])
+pub header_goes_on : (came : ℕ) (head next : Head) (p : List ℕ) (b : ℕ) → IsInHeader came head p → came < header_limit → spot_next head.spot head.size b ≡ On next → IsInHeader (came + 1) next (p ++ b ∷ [])
 header_goes_on came head next p b r inside e = record {
   counted = omega (arith, length_push p b, r.counted);
   limit = omega arith;
@@ -28,7 +28,7 @@ header_goes_on came head next p b r inside e = record {
 header_ends : (came : ℕ) (head : Head) (size : ℕ) (p : List ℕ) (b : ℕ) → IsInHeader came head p → spot_next head.spot head.size b ≡ Closed size → reading (p ++ b ∷ []) ≡ Closed size
 header_ends came head size p b r e = run_on start (On head) p (b ∷ []) r.leads ∙ e
 
-pub header_opens : (came : ℕ) (head : Head) (size : ℕ) (p : List ℕ) (b : ℕ) → IsInHeader came head p → came < HEADER_LIMIT → spot_next head.spot head.size b ≡ Closed size → 0 < size → IsInContent (came + 1) size size (p ++ b ∷ [])
+pub header_opens : (came : ℕ) (head : Head) (size : ℕ) (p : List ℕ) (b : ℕ) → IsInHeader came head p → came < header_limit → spot_next head.spot head.size b ≡ Closed size → 0 < size → IsInContent (came + 1) size size (p ++ b ∷ [])
 header_opens came head size p b r inside e some = record {
   front = p ++ b ∷ [];
   content = [];
@@ -40,7 +40,7 @@ header_opens came head size p b r inside e some = record {
   whole = sym (append-nil (p ++ b ∷ []));
 }
 
-pub header_whole : (came : ℕ) (head : Head) (size : ℕ) (p : List ℕ) (b : ℕ) → IsInHeader came head p → came < HEADER_LIMIT → spot_next head.spot head.size b ≡ Closed size → size ≡ 0 → IsMarked (record { header = came + 1; content = 0 }) (p ++ b ∷ [])
+pub header_whole : (came : ℕ) (head : Head) (size : ℕ) (p : List ℕ) (b : ℕ) → IsInHeader came head p → came < header_limit → spot_next head.spot head.size b ≡ Closed size → size ≡ 0 → IsMarked (record { header = came + 1; content = 0 }) (p ++ b ∷ [])
 header_whole came head size p b r inside e empty = record {
   front = p ++ b ∷ [];
   body = [];
@@ -166,7 +166,7 @@ front_header p header b x y short e = elim (fronts header p y (b ∷ x) (sym (sy
   nil_of (x ∷ xs) e = absurd (omega arith)
 
 -- no frame begins with a header part that has more bytes than its limit
-long_never : (came : ℕ) (head : Head) (p : List ℕ) (b : ℕ) → IsInHeader came head p → came ≡ HEADER_LIMIT → NeverBegins (p ++ b ∷ [])
+long_never : (came : ℕ) (head : Head) (p : List ℕ) (b : ℕ) → IsInHeader came head p → came ≡ header_limit → NeverBegins (p ++ b ∷ [])
 long_never came head p b r full = record {
   none = record {
     none = λ body after w.

@@ -4,7 +4,7 @@ use Rattle.std.proofs.lemmas.List.{length-map, drop_more, drop_all}
 use Rattle.std.proofs.lemmas.Bool.{and_parts, and_from, and_right, cond-true, cond-false, cases_Bool, eqb-true, eq-eqb, ne_eqb, ltb-true, lt-ltb, le-ltb}
 use Rattle.std.specs.List.{flat_map}
 use Rattle.std.specs.Char.{is_ascii_digit, to_ascii_lowercase}
-use Rattle.rpc_frame.specs.declared.TheConstants.{CONTENT_LIMIT}
+use Rattle.rpc_frame.specs.Limits.{content_limit}
 use Rattle.rpc_frame.specs.declared.head.Spot.TheVariants.{Field, Name, Value, Digits, Behind}
 use Rattle.rpc_frame.specs.declared.head.Next.TheVariants.{Closed}
 use Rattle.rpc_frame.specs.Frames.{name_byte, value_byte, blank_byte, EachPasses, HeaderLine, line_text, IsLine, AreLines, length_name, IsLengthName, AreDigits, number_behind, IsLength, NoLength as HaveNoLength, OneLength, IsHeader}
@@ -105,13 +105,13 @@ pub number_grows : (n : ℕ) (ds : List ℕ) → n ≤ number_behind n ds
 number_grows n [] = omega arith
 number_grows n (c ∷ ds) = omega (arith, number_grows (10 * n + (c - 48)) ds)
 
-digit_step : (count number : ℕ) (size : Option ℕ) (d : ℕ) → is_ascii_digit d ≡ true → count < 8 → 10 * number + (d - 48) ≤ CONTENT_LIMIT → digits_next count number size d ≡ on size (Digits (count + 1) (10 * number + (d - 48)))
+digit_step : (count number : ℕ) (size : Option ℕ) (d : ℕ) → is_ascii_digit d ≡ true → count < 8 → 10 * number + (d - 48) ≤ content_limit → digits_next count number size d ≡ on size (Digits (count + 1) (10 * number + (d - 48)))
 unfolding digits_next figure_next
 digit_step count number size d digit few fits =
     cond-true (is_ascii_digit d) _ _ digit ∙ cond-false (eqb count 8) _ _ (ne_eqb count 8 (λ e. omega arith))
-    ∙ cond-false (nat_lt CONTENT_LIMIT (10 * number + (d - 48))) _ _ (le-ltb CONTENT_LIMIT (10 * number + (d - 48)) fits)
+    ∙ cond-false (nat_lt content_limit (10 * number + (d - 48))) _ _ (le-ltb content_limit (10 * number + (d - 48)) fits)
 
-pub digits_run : (ds : List ℕ) (count number : ℕ) (size : Option ℕ) → AreDigits ds → count + length ds ≤ 8 → number_behind number ds ≤ CONTENT_LIMIT → run (on size (Digits count number)) ds ≡ on size (Digits (count + length ds) (number_behind number ds))
+pub digits_run : (ds : List ℕ) (count number : ℕ) (size : Option ℕ) → AreDigits ds → count + length ds ≤ 8 → number_behind number ds ≤ content_limit → run (on size (Digits count number)) ds ≡ on size (Digits (count + length ds) (number_behind number ds))
 digits_run [] count number size h few fits = ap (λ c. on size (Digits c number)) (omega arith)
 digits_run (d ∷ ds) count number size h few fits =
     let next : ℕ = 10 * number + (d - 48) in
@@ -171,7 +171,7 @@ length_colon name x size passes named =
     run_on (on size (Field 0)) (on size (Field 14)) name (58 ∷ x) (length_run name 0 size passes named (omega arith)) ∙ ap (λ n. run n x) (field_length_colon size)
 
 -- blanks and digits behind it
-pub to_digits : (before digits x : List ℕ) → EachPasses blank_byte before → AreDigits digits → length digits ≤ 8 → number_behind 0 digits ≤ CONTENT_LIMIT → run (on None (Digits 0 0)) (before ++ (digits ++ x)) ≡ run (on None (Digits (length digits) (number_behind 0 digits))) x
+pub to_digits : (before digits x : List ℕ) → EachPasses blank_byte before → AreDigits digits → length digits ≤ 8 → number_behind 0 digits ≤ content_limit → run (on None (Digits 0 0)) (before ++ (digits ++ x)) ≡ run (on None (Digits (length digits) (number_behind 0 digits))) x
 to_digits before digits x blank each few fits =
     run_on (on None (Digits 0 0)) (on None (Digits 0 0)) before (digits ++ x) (blanks_run before None blank)
     ∙ run_on (on None (Digits 0 0)) (on None (Digits (0 + length digits) (number_behind 0 digits))) digits x (digits_run digits 0 0 None each (omega arith) fits)

@@ -1,7 +1,7 @@
 -- What the decoder knows of the bytes that it keeps, as facts on the stream.
 use Rattle.std.proofs.Common.{◌≡◌, ℕ, zero, suc, ◌+◌, ◌<◌, ◌≤◌, None, List, [], ◌∷◌, ◌++◌, length, get_or, take, drop, sym, ◌∙◌, ap, subst, refl, arith, append_assoc, length-append, take-append-drop}
 use Rattle.std.proofs.lemmas.List.{append-nil, take_at, drop_at, length-take-le, nil_from_length}
-use Rattle.rpc_frame.specs.declared.TheConstants.{CONTENT_LIMIT}
+use Rattle.rpc_frame.specs.Limits.{content_limit}
 use Rattle.rpc_frame.specs.declared.damage.Damage.{Damage}
 use Rattle.rpc_frame.specs.declared.head.Head.{Head}
 use Rattle.rpc_frame.specs.declared.head.Spot.TheVariants.{Field}
@@ -136,7 +136,7 @@ stepped_whole from k ms b s = record {
 pub record FirstFrame (from : ℕ) (reading : Reading) (k : Mark) (ms : List Mark) (b : List ℕ) : Type 0 where
   pub fits : k.header + k.content ≤ length b
   pub begins : BeginsWith b (take k.content (drop k.header b)) (drop (k.header + k.content) b)
-  pub limit : k.content ≤ CONTENT_LIMIT
+  pub limit : k.content ≤ content_limit
   pub others : Scanned (from + (k.header + k.content)) reading ms (drop (k.header + k.content) b)
 
 first_frame : (from : ℕ) (reading : Reading) (k : Mark) (ms : List Mark) (b : List ℕ) → Scanned from reading (k ∷ ms) b → FirstFrame from reading k ms b

@@ -5,7 +5,7 @@ use Rattle.std.proofs.lemmas.List.Concat.{flat_map-append}
 use Rattle.std.proofs.lemmas.Bool.{and_parts, and_cases, and_from, both_ways, cond_both, eqb-true, eqb-false, eq-eqb, ltb-true, ltb-false, lt-ltb}
 use Rattle.std.specs.List.{flat_map}
 use Rattle.std.specs.Char.{is_ascii_digit, to_ascii_lowercase}
-use Rattle.rpc_frame.specs.declared.TheConstants.{CONTENT_LIMIT}
+use Rattle.rpc_frame.specs.Limits.{content_limit}
 use Rattle.rpc_frame.specs.declared.damage.DamageKind.TheVariants.{BadLine, TwoLengths, BadLength, TooLong, NoLength}
 use Rattle.rpc_frame.specs.declared.head.Spot.{Spot}
 use Rattle.rpc_frame.specs.declared.head.Spot.TheVariants.{Field, Name, Value, Digits, Behind, LineEnd, Closing}
@@ -241,7 +241,7 @@ figure_leads count number size bytes line b l none r digit =
     (λ full. breaks BadLength size bytes line b l (none, inl (record { digits = r.digits; stands = r.stands; breaks = inr (inl (digit, r.counted ∙ eqb-true count 8 full)) })))
     (λ few.
     let room : count < 8 = omega (arith, r.eight, eqb-false count 8 few) in
-    cond_both (nat_lt CONTENT_LIMIT (10 * number + (b - 48))) _ _ (λ n. Leads n bytes b)
+    cond_both (nat_lt content_limit (10 * number + (b - 48))) _ _ (λ n. Leads n bytes b)
     (λ large. breaks TooLong size bytes line b l (
       none,
       record {
@@ -249,7 +249,7 @@ figure_leads count number size bytes line b l none r digit =
         stands = r.stands;
         few = omega (arith, r.counted);
         digit = digit;
-        large = subst (λ n. CONTENT_LIMIT < n) (sym (more_number count number b line r)) (ltb-true CONTENT_LIMIT (10 * number + (b - 48)) large);
+        large = subst (λ n. content_limit < n) (sym (more_number count number b line r)) (ltb-true content_limit (10 * number + (b - 48)) large);
       },
     ))
     (λ fits. goes (Digits (count + 1) (10 * number + (b - 48))) size size bytes line b l (
@@ -261,7 +261,7 @@ figure_leads count number size bytes line b l none r digit =
         counted = omega (arith, length_push r.digits b, r.counted);
         eight = omega arith;
         written = more_number count number b line r;
-        limit = ltb-false CONTENT_LIMIT (10 * number + (b - 48)) fits;
+        limit = ltb-false content_limit (10 * number + (b - 48)) fits;
       },
     )))
 

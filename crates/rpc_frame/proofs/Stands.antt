@@ -1,7 +1,7 @@
 -- What stands in the bytes of a header part that lead to a head, by the head's spot.
 use Rattle.std.proofs.Common.{◌≡◌, ℕ, ◌<◌, ◌≤◌, ◌⊎◌, Option, Some, None, List, [], ◌∷◌, ◌++◌, length, take}
 use Rattle.std.specs.List.{flat_map}
-use Rattle.rpc_frame.specs.declared.TheConstants.{CONTENT_LIMIT}
+use Rattle.rpc_frame.specs.Limits.{content_limit}
 use Rattle.rpc_frame.specs.declared.damage.DamageKind.{DamageKind}
 use Rattle.rpc_frame.specs.declared.head.Spot.{Spot}
 use Rattle.rpc_frame.specs.declared.head.Spot.TheVariants.{Field, Name, Value, Digits, Behind, LineEnd, Closing}
@@ -38,7 +38,7 @@ pub record InLength (count number : ℕ) (line : List ℕ) : Type 0 where
   pub counted : length digits ≡ count
   pub eight : count ≤ 8
   pub written : number_behind 0 digits ≡ number
-  pub limit : number ≤ CONTENT_LIMIT
+  pub limit : number ≤ content_limit
 
 -- the name of the length, digits that write this number, and a blank
 pub record InBlanks (number : ℕ) (line : List ℕ) : Type 0 where

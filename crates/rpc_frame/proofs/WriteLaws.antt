@@ -5,7 +5,7 @@ use Rattle.std.proofs.lemmas.Bool.{and_parts}
 use Rattle.std.proofs.lemmas.Fmt.{digits_decimal, digits_value-decimal, decimal_nonempty, length-decimal-le}
 use Rattle.std.proofs.lemmas.Str.Parse.{IsNumeralModel, numerals_by_fold}
 use Rattle.std.specs.List.{flat_map, list_all}
-use Rattle.rpc_frame.specs.declared.TheConstants.{CONTENT_LIMIT, HEADER_LIMIT}
+use Rattle.rpc_frame.specs.Limits.{content_limit, header_limit}
 use Rattle.rpc_frame.specs.Frames.{name_byte, value_byte, blank_byte, EachPasses, HeaderLine, line_text, IsLine, length_name, IsLengthName, IsLength, AreDigits, number_behind, IsSize, IsHeader, IsFrame, BeginsWith, field_name, line_ends, written_frame}
 use Rattle.rpc_frame.proofs.Bytes.{digits_values}
 use Rattle.rpc_frame.proofs.FrameLaws.{frame_begins}
@@ -14,7 +14,7 @@ use Rattle.rpc_frame.proofs.FrameLaws.{frame_begins}
 own : IsNumeralModel AreDigits (number_behind 0)
 own = numerals_by_fold AreDigits (search rules) number_behind (search rules)
 
-pub size_of_decimal : (n : ℕ) → n ≤ CONTENT_LIMIT → IsSize (decimal n) n
+pub size_of_decimal : (n : ℕ) → n ≤ content_limit → IsSize (decimal n) n
 size_of_decimal n h =
     let small : n < 2 ^ 64 = omega arith in
     let short : n < 10 ^ 8 = omega arith in
@@ -37,7 +37,7 @@ all_pass : (test : ℕ → Bool) (bs : List ℕ) → list_all test bs ≡ true �
 all_pass test [] h = tt
 all_pass test (b ∷ bs) h = let p = and_parts (test b) (list_all test bs) h in (p.0, all_pass test bs p.1)
 
-line_is : (n : ℕ) → n ≤ CONTENT_LIMIT → IsLine (line_of n)
+line_is : (n : ℕ) → n ≤ content_limit → IsLine (line_of n)
 unfolding line_of name_byte value_byte
 line_is n h = record {
   some = omega arith;
@@ -49,7 +49,7 @@ line_named : (n : ℕ) → IsLengthName (line_of n).name
 unfolding line_of length_name
 line_named n = refl
 
-line_says : (n : ℕ) → n ≤ CONTENT_LIMIT → IsLength (line_of n).value n
+line_says : (n : ℕ) → n ≤ content_limit → IsLength (line_of n).value n
 unfolding line_of blank_byte
 line_says n h = record {
   before = 32 ∷ [];
@@ -69,7 +69,7 @@ header_shown n =
     sym (append_assoc (decimal n) ends ends) ∙ ap (λ t. t ++ ends) (sym (append-nil (decimal n ++ ends))) in
     ap (λ t. field_name ++ t) tail
 
-header_is : (n : ℕ) → n ≤ CONTENT_LIMIT → IsHeader (header_of n) n
+header_is : (n : ℕ) → n ≤ content_limit → IsHeader (header_of n) n
 header_is n h = record {
   lines = line_of n ∷ [];
   each = (line_is n h, tt);
@@ -77,12 +77,12 @@ header_is n h = record {
   whole = header_shown n;
 }
 
-length-header_of : (n : ℕ) → n ≤ CONTENT_LIMIT → length (header_of n) ≤ HEADER_LIMIT
+length-header_of : (n : ℕ) → n ≤ content_limit → length (header_of n) ≤ header_limit
 unfolding header_of field_name line_ends
 length-header_of n h =
     omega (arith, (size_of_decimal n h).eight, length-append field_name (decimal n ++ line_ends), length-append (decimal n) line_ends)
 
-pub written_is_frame : (body : List ℕ) → length body ≤ CONTENT_LIMIT → IsFrame (written_frame body) body
+pub written_is_frame : (body : List ℕ) → length body ≤ content_limit → IsFrame (written_frame body) body
 unfolding written_frame header_of
 written_is_frame body h =
     let n = length body in
@@ -94,7 +94,7 @@ written_is_frame body h =
     }
 
 -- what was written is read again, whatever follows it
-pub written_begins : (body after : List ℕ) → length body ≤ CONTENT_LIMIT → BeginsWith (written_frame body ++ after) body after
+pub written_begins : (body after : List ℕ) → length body ≤ content_limit → BeginsWith (written_frame body ++ after) body after
 written_begins body after h = frame_begins (written_frame body) body after (written_is_frame body h)
 
 -- the parts of a frame, written one behind another

@@ -2,7 +2,7 @@
 use Rattle.std.specs.Prelude.{◌≡◌, ◌≢◌, ℕ, ◌+◌, ◌<◌, ◌⊎◌, true, false, Option, Some, None, List, [], ◌∷◌, ◌++◌, length}
 use Rattle.std.specs.List.{flat_map}
 use Rattle.std.specs.Char.{is_ascii_digit}
-use Rattle.rpc_frame.specs.declared.TheConstants.{CONTENT_LIMIT, HEADER_LIMIT}
+use Rattle.rpc_frame.specs.Limits.{content_limit, digit_limit, header_limit}
 use Rattle.rpc_frame.specs.declared.damage.DamageKind.{DamageKind}
 use Rattle.rpc_frame.specs.declared.damage.DamageKind.TheVariants.{BadLine, TwoLengths, BadLength, TooLong, NoLength, HeaderTooLong, Truncated}
 use Rattle.rpc_frame.specs.declared.damage.Damage.{Damage}
@@ -67,7 +67,7 @@ pub record BehindDigits (line : List ℕ) : Type 0 where
 pub record BreaksDigits (line : List ℕ) (b : ℕ) : Type 0 where
   pub digits : List ℕ
   pub stands : InDigits line digits
-  pub breaks : ((value_byte b ≡ true) × (is_ascii_digit b ≡ false) × (blank_byte b ≡ false)) ⊎ (((is_ascii_digit b ≡ true) × (length digits ≡ 8)) ⊎ ((b ≡ 13) × (digits ≡ [])))
+  pub breaks : ((value_byte b ≡ true) × (is_ascii_digit b ≡ false) × (blank_byte b ≡ false)) ⊎ (((is_ascii_digit b ≡ true) × (length digits ≡ digit_limit)) ⊎ ((b ≡ 13) × (digits ≡ [])))
 
 -- behind its digits and a blank: a byte that is no blank
 pub record BreaksBehind (line : List ℕ) (b : ℕ) : Type 0 where
@@ -78,9 +78,9 @@ pub record BreaksBehind (line : List ℕ) (b : ℕ) : Type 0 where
 pub record PassesLimit (line : List ℕ) (b : ℕ) : Type 0 where
   pub digits : List ℕ
   pub stands : InDigits line digits
-  pub few : length digits < 8
+  pub few : length digits < digit_limit
   pub digit : is_ascii_digit b ≡ true
-  pub large : CONTENT_LIMIT < number_behind 0 (digits ++ b ∷ [])
+  pub large : content_limit < number_behind 0 (digits ++ b ∷ [])
 
 -- What kind of damage the byte is behind whole header lines, in which Content-Length says this size,
 -- and these bytes of one more line. HeaderTooLong goes by the number of bytes alone, and Truncated is
@@ -103,11 +103,11 @@ pub record BreaksPart (kind : DamageKind) (part : List ℕ) (b : ℕ) : Type 0 w
   pub each : AreLines lines
   pub lengths : Lengths lines size
   pub whole : part ≡ flat_map line_text lines ++ line
-  pub inside : length part < HEADER_LIMIT
+  pub inside : length part < header_limit
   pub of_kind : IsOfKind kind size line b
 
 abbrev pub BreaksHeader : DamageKind → List ℕ → ℕ → Type 0
-BreaksHeader kind part b = BreaksPart kind part b ⊎ ((kind ≡ HeaderTooLong) × (length part ≡ HEADER_LIMIT))
+BreaksHeader kind part b = BreaksPart kind part b ⊎ ((kind ≡ HeaderTooLong) × (length part ≡ header_limit))
 
 -- Damage: the byte at the place is the last of the shortest front of the bytes that begins no list of
 -- frames, and of this kind in the header part that stands behind the whole frames.

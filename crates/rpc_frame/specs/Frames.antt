@@ -3,7 +3,7 @@ use Rattle.std.specs.Prelude.{◌≡◌, ℕ, ◌+◌, ◌-◌, ◌*◌, ◌<◌
 use Rattle.std.specs.List.{flat_map}
 use Rattle.std.specs.Char.{IsAsciiDigit, is_ascii_alphanumeric}
 use Rattle.std.specs.Str.{str_to_ascii_lowercase}
-use Rattle.rpc_frame.specs.declared.TheConstants.{CONTENT_LIMIT, HEADER_LIMIT}
+use Rattle.rpc_frame.specs.Limits.{content_limit, digit_limit, header_limit}
 
 -- a byte of a name: a letter, a digit or a dash
 unfoldable pub name_byte : ℕ → Bool
@@ -56,13 +56,13 @@ abbrev pub number_behind : ℕ → List ℕ → ℕ
 number_behind n [] = n
 number_behind n (c ∷ cs) = number_behind (10 * n + (c - 48)) cs
 
--- the digits write this size of a content: one digit to eight, and the size is within the limit
+-- the digits write this size of a content: at least one digit and at most eight, and the size is within the limit
 pub record IsSize (digits : List ℕ) (size : ℕ) : Type 0 where
   pub each : AreDigits digits
   pub one : 0 < length digits
-  pub eight : length digits ≤ 8
+  pub eight : length digits ≤ digit_limit
   pub number : number_behind 0 digits ≡ size
-  pub limit : size ≤ CONTENT_LIMIT
+  pub limit : size ≤ content_limit
 
 -- the value says this size of a content; blanks and tabs on either side don't count
 pub record IsLength (value : List ℕ) (size : ℕ) : Type 0 where
@@ -95,7 +95,7 @@ pub record IsHeader (header : List ℕ) (size : ℕ) : Type 0 where
 pub record IsFrame (frame body : List ℕ) : Type 0 where
   pub header : List ℕ
   pub «is» : IsHeader header (length body)
-  pub limit : length header ≤ HEADER_LIMIT
+  pub limit : length header ≤ header_limit
   pub whole : frame ≡ header ++ body
 
 -- the bytes are a frame with this content, and then others
@@ -126,7 +126,7 @@ pub record BeginsFrame (bytes : List ℕ) : Type 0 where
   pub header : List ℕ
   pub body : List ℕ
   pub «is» : IsHeader header (length body)
-  pub limit : (length bytes ≤ HEADER_LIMIT) ⊎ (length header ≤ HEADER_LIMIT)
+  pub limit : (length bytes ≤ header_limit) ⊎ (length header ≤ header_limit)
   pub whole : bytes ++ more ≡ header ++ body
 
 -- no frame stands in front of the bytes, and they begin none, however they go on

@@ -2,7 +2,7 @@
 -- a header part is read to its end exactly where it is one.
 use Rattle.std.specs.Prelude.{ℕ, ◌+◌, ◌-◌, ◌*◌, ◌==◌, ◌&&◌, Bool, nat_lt, if◌then◌else◌, Option, Some, None, List, [], ◌∷◌, slice_index}
 use Rattle.std.specs.Char.{is_ascii_digit, to_ascii_lowercase}
-use Rattle.rpc_frame.specs.declared.TheConstants.{CONTENT_LIMIT}
+use Rattle.rpc_frame.specs.Limits.{content_limit, digit_limit}
 use Rattle.rpc_frame.specs.declared.damage.DamageKind.TheVariants.{BadLine, TwoLengths, BadLength, TooLong, NoLength, Truncated}
 use Rattle.rpc_frame.specs.declared.head.Spot.{Spot}
 use Rattle.rpc_frame.specs.declared.head.Spot.TheVariants.{Field, Name, Value, Digits, Behind, LineEnd, Closing}
@@ -46,8 +46,8 @@ other_next b = if value_byte b then Bad BadLength else Bad BadLine
 
 unfoldable pub figure_next : ℕ → ℕ → Option ℕ → ℕ → Next
 figure_next count number size figure =
-    if count == 8 then Bad BadLength
-    else (if nat_lt CONTENT_LIMIT (10 * number + figure) then Bad TooLong
+    if count == digit_limit then Bad BadLength
+    else (if nat_lt content_limit (10 * number + figure) then Bad TooLong
     else on size (Digits (count + 1) (10 * number + figure)))
 
 unfoldable pub digits_next : ℕ → ℕ → Option ℕ → ℕ → Next

@@ -2,5 +2,6 @@ pub mod Damages
 pub mod Frames
 pub mod Heads
 pub mod Kept
+pub mod Limits
 pub mod Partial
 pub mod Spots

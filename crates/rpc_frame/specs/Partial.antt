@@ -1,6 +1,6 @@
 -- What the decoder knows of the bytes that it keeps: whole frames with their marks, and a part of one.
 use Rattle.std.specs.Prelude.{◌≡◌, ℕ, ◌+◌, ◌<◌, ◌≤◌, ◌⊎◌, List, [], ◌∷◌, ◌++◌, length}
-use Rattle.rpc_frame.specs.declared.TheConstants.{HEADER_LIMIT}
+use Rattle.rpc_frame.specs.Limits.{header_limit}
 use Rattle.rpc_frame.specs.declared.damage.Damage.{Damage}
 use Rattle.rpc_frame.specs.declared.damage.DamageKind.{DamageKind}
 use Rattle.rpc_frame.specs.declared.damage.DamageKind.TheVariants.{HeaderTooLong}
@@ -18,7 +18,7 @@ use Rattle.rpc_frame.specs.Spots.{IsFit}
 -- so many bytes of a header part, which lead to this head
 pub record IsInHeader (came : ℕ) (head : Head) (bytes : List ℕ) : Type 0 where
   pub counted : length bytes ≡ came
-  pub limit : came ≤ HEADER_LIMIT
+  pub limit : came ≤ header_limit
   pub leads : reading bytes ≡ On head
 
 -- a header part of so many bytes, and a content of this size of which so many bytes are missing
@@ -27,14 +27,14 @@ pub record IsInContent (header size missing : ℕ) (bytes : List ℕ) : Type 0 w
   pub content : List ℕ
   pub closed : reading front ≡ Closed size
   pub counted : length front ≡ header
-  pub limit : header ≤ HEADER_LIMIT
+  pub limit : header ≤ header_limit
   pub some : 0 < missing
   pub left : length content + missing ≡ size
   pub whole : bytes ≡ front ++ content
 
 -- what comes of a head by one byte is damage of this kind; or the header part has all bytes that it may have
 abbrev pub Breaks : DamageKind → Head → ℕ → ℕ → Type 0
-Breaks kind head came byte = ((came < HEADER_LIMIT) × (spot_next head.spot head.size byte ≡ Bad kind)) ⊎ ((came ≡ HEADER_LIMIT) × (kind ≡ HeaderTooLong))
+Breaks kind head came byte = ((came < header_limit) × (spot_next head.spot head.size byte ≡ Bad kind)) ⊎ ((came ≡ header_limit) × (kind ≡ HeaderTooLong))
 
 -- behind a part that stands at this place of the stream, a byte is damage
 pub record IsBad (offset : ℕ) (damage : Damage) (bytes : List ℕ) : Type 0 where
@@ -56,8 +56,8 @@ Reads offset (Broken damage) bytes = IsBad offset damage bytes
 
 -- the numbers of a reading are within their limits
 abbrev pub IsWithin : Reading → Type 0
-IsWithin (Header came head) = (came ≤ HEADER_LIMIT) × IsFit head.spot
-IsWithin (Content header size missing) = (0 < missing) × (header ≤ HEADER_LIMIT)
+IsWithin (Header came head) = (came ≤ header_limit) × IsFit head.spot
+IsWithin (Content header size missing) = (0 < missing) × (header ≤ header_limit)
 IsWithin (Broken damage) = Unit {0}
 
 -- the mark says where the content of the frame begins and ends

@@ -1,5 +1,10 @@
 //! The frames of the base protocol (Language Server Protocol 3.17): a stream that comes in any
 //! pieces is cut into the contents of its frames, and a content is written as a frame.
+//!
+//! The crate stands on `ob_text`, and on `itoa` for decimal numbers. It knows nothing of messages. Begin
+//! with `specs/Frames.antt`, what a frame is, and `specs/Damages.antt`, where a stream stops being frames
+//! and why; then `stream.rt`. The other files of `specs/` say what the decoder keeps, for its private
+//! functions alone.
 #![tactic(auto)]
 
 mod damage;

@@ -1,6 +1,7 @@
 ghost use Rattle.std.specs.Prelude.{◌≡◌, ℕ, ◌+◌, ◌<◌, ◌≤◌, ◌↔◌, List, [], ◌∷◌, ◌++◌, length, take, IsTrue, IsSome, IfSome, IfNone};
 ghost use Rattle.rpc_frame.specs.Partial.{IsWithin, IsWithinStep, Makes, Reads};
 ghost use Rattle.rpc_frame.specs.Spots.{IsFit};
+ghost use Rattle.rpc_frame.specs.Limits.{header_limit};
 
 use crate::HEADER_LIMIT;
 use crate::damage::{Damage, DamageKind};
@@ -92,7 +93,7 @@ impl Reading {
 }
 
 fn after_header(came: usize, head: Head, place: u64, byte: u8) -> Step
-    requires limit { came ≤ HEADER_LIMIT }
+    requires limit { came ≤ header_limit }
     requires fit { IsFit head.spot }
     ensures within { IsWithinStep result }
     ensures makes { (offset : ℕ) (part : List ℕ) → offset + length part ≡ place
@@ -120,7 +121,7 @@ fn broken(place: u64, kind: DamageKind) -> Step
 
 /// The start of a content behind a header part of so many bytes.
 fn opened(header: usize, size: usize) -> Step
-    requires { header ≤ HEADER_LIMIT }
+    requires { header ≤ header_limit }
     ensures within { IsWithinStep result }
     ensures empty { size ≡ 0 → result ≡ Step.Whole (record { header = header; content = 0 }) }
     ensures some { 0 < size → result ≡ Step.Inside (Reading.Content header size size) }
@@ -138,7 +139,7 @@ fn opened(header: usize, size: usize) -> Step
 fn after_content(header: usize, size: usize, missing: usize, ready: usize) -> (Step, usize)
     requires some { 0 < ready }
     requires missing { 0 < missing }
-    requires limit { header ≤ HEADER_LIMIT }
+    requires limit { header ≤ header_limit }
     ensures progress { 0 < result.1 }
     ensures inside { result.1 ≤ ready }
     ensures within { IsWithinStep result.0 }

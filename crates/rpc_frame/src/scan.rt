@@ -1,7 +1,7 @@
 ghost use Rattle.std.specs.Prelude.{◌≡◌, ℕ, ◌+◌, ◌<◌, ◌≤◌, List, [], ◌∷◌, ◌++◌, length, take, IfOk, OnOk, OnErr};
 ghost use Rattle.rpc_frame.specs.Partial.{GoesOn, IsWithin, IsWithinStep, Scanned, Stepped};
+ghost use Rattle.rpc_frame.specs.Limits.{stream_limit};
 
-use crate::STREAM_LIMIT;
 use crate::reading::{Mark, Reading, Step};
 use ob_text::NoMemory;
 use std::collections::VecDeque;
@@ -17,7 +17,7 @@ pub fn append(
     piece: &[u8],
 ) -> Result<Reading, NoMemory>
     requires within { IsWithin reading }
-    requires bound { begun + length piece.now ≤ STREAM_LIMIT }
+    requires bound { begun + length piece.now ≤ stream_limit }
     ensures bytes { OnOk result (bytes.new.items ≡ bytes.old.items ++ piece.now) }
     ensures within { IfOk result IsWithin }
     ensures scanned { IfOk result (λ r. (from : ℕ) (waiting : List ℕ) → from + length waiting ≡ begun
@@ -47,7 +47,7 @@ fn scan(
     piece: &[u8],
 ) -> Result<Reading, NoMemory>
     requires within { IsWithin reading }
-    requires bound { begun + length piece.now ≤ STREAM_LIMIT }
+    requires bound { begun + length piece.now ≤ stream_limit }
     ensures within { IfOk result IsWithin }
     ensures scanned { IfOk result (λ r. (from : ℕ) (waiting : List ℕ) → from + length waiting ≡ begun
         → Scanned from reading marks.old.items waiting

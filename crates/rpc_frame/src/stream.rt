@@ -2,11 +2,12 @@ ghost use Rattle.std.specs.Prelude.{◌≡◌, ℕ, ◌+◌, ◌<◌, ◌≤◌,
 ghost use Rattle.rpc_frame.specs.declared.damage.Damage.{Damage};
 ghost use Rattle.rpc_frame.specs.Damages.{HasDamage, IfDamaged};
 ghost use Rattle.rpc_frame.specs.Frames.{BeginsWith, HasNoFrame, IsBorder, IsBroken, IsSound};
+ghost use Rattle.rpc_frame.specs.Limits.{content_limit, stream_limit};
 
 use crate::damage::{Damage, FeedFault};
 use crate::reading::{Mark, Reading};
 use crate::scan::append;
-use crate::{CONTENT_LIMIT, STREAM_LIMIT};
+use crate::STREAM_LIMIT;
 use ob_text::NoMemory;
 use std::alloc::Global;
 use std::collections::VecDeque;
@@ -57,7 +58,7 @@ impl Decoder {
 
     /// Takes the next piece of the stream. Frames that end before a damage are given all the same.
     pub fn feed(&mut self, piece: &[u8]) -> Result<(), FeedFault>
-        requires { self.old.given_end + length self.old.bytes + length piece.now ≤ STREAM_LIMIT }
+        requires { self.old.given_end + length self.old.bytes + length piece.now ≤ stream_limit }
 
         // The piece is taken, unless there is no memory.
         ensures taken { (IsErrOf result FeedFault.NoMemory → ⊥)
@@ -92,7 +93,7 @@ impl Decoder {
         ensures some { IfOk result (λ next. IfSome next (λ body.
             BeginsWith self.old.bytes body.items self.new.bytes)) }
         ensures limit { IfOk result (λ next. IfSome next (λ body.
-            length body.items ≤ CONTENT_LIMIT)) }
+            length body.items ≤ content_limit)) }
         ensures fewer { IfOk result (λ next. IfSome next (λ _.
             length self.new.bytes < length self.old.bytes)) }
         ensures none { IfOk result (λ next. IfNone next (HasNoFrame self.old.bytes)) }
@@ -127,6 +128,13 @@ impl Decoder {
         ensures { result ≡ self.now.given_end }
     {
         self.given_end
+    }
+
+    /// How many more bytes of the stream the decoder takes.
+    pub fn room(&self) -> u64
+        ensures { self.now.given_end + length self.now.bytes + result ≡ stream_limit }
+    {
+        STREAM_LIMIT - self.given_end - (self.bytes.len() - self.start) as u64
     }
 
     /// Drops the bytes that were given, once they are more than the others.

@@ -1,8 +1,7 @@
 ghost use Rattle.std.specs.Prelude.{◌+◌, ◌<◌, ◌≤◌, length};
+ghost use Rattle.rpc_frame.specs.Limits.{stream_limit};
 
-use crate::{
-    CONTENT_LIMIT, Damage, DamageKind, Decoder, FeedFault, HEADER_LIMIT, STREAM_LIMIT, frame_into,
-};
+use crate::{Damage, DamageKind, Decoder, FeedFault, frame_into};
 use std::alloc::Global;
 use std::test::Fail;
 
@@ -18,7 +17,7 @@ struct Outcome {
 /// Feeds a stream in pieces of this many bytes.
 fn read(alloc: Global, stream: &[u8], size: usize) -> Result<Outcome, Fail>
     requires some { 0 < size }
-    requires limit { length stream.now ≤ STREAM_LIMIT }
+    requires limit { length stream.now ≤ stream_limit }
 {
     let mut decoder = Decoder::new(alloc);
     let mut bodies = Vec::new(alloc);
@@ -243,7 +242,7 @@ fn holds_a_header_part_to_its_limit(rt: HostRuntime) -> Result<(), Fail> {
         ),
     ] {
         let stream = long_header(alloc, line, end)?;
-        assert!(rt; stream.len() < 2 * HEADER_LIMIT);
+        assert!(rt; stream.len() < 2_048);
         let damage = told.map(|(place, kind)| Damage { place, kind });
         for size in [1, 2, 7, 1_024, 1_025, 2_048] {
             assert!(rt; size > 0);
@@ -258,6 +257,7 @@ fn holds_a_header_part_to_its_limit(rt: HostRuntime) -> Result<(), Fail> {
 fn gives_the_frames_before_a_damage(rt: HostRuntime) -> Result<(), Fail> {
     let mut decoder = Decoder::new(rt.alloc());
     assert_eq!(rt; decoder.given_end(), 0);
+    assert_eq!(rt; decoder.room(), 34_359_738_368);
     let stream = b"Content-Length: 1\r\n\r\naContent-Length: 0\r\n\r\nContent-Length: 1\n";
     let damaged = Err(FeedFault::Damaged(Damage {
         place: 60,
@@ -271,6 +271,7 @@ fn gives_the_frames_before_a_damage(rt: HostRuntime) -> Result<(), Fail> {
     assert_eq!(rt; bodies[0].as_slice(), b"a".as_slice());
     assert!(rt; bodies[1].is_empty());
     assert_eq!(rt; decoder.given_end(), 43);
+    assert_eq!(rt; decoder.room(), 34_359_738_290);
     assert!(rt; !decoder.at_border());
     assert_eq!(rt; decoder.feed(b""), damaged);
     Ok(())
@@ -286,11 +287,11 @@ fn reads_what_it_writes(rt: HostRuntime) -> Result<(), Fail> {
         b"> Content-Length: 8\r\n\r\n{\"id\":1}".as_slice()
     );
 
-    let largest = vec![in alloc; b' '; CONTENT_LIMIT]?;
-    assert_eq!(rt; largest.len(), CONTENT_LIMIT);
+    let largest = vec![in alloc; b' '; 16_777_216]?;
+    assert_eq!(rt; largest.len(), 16_777_216);
     let mut stream = Vec::new(alloc);
     frame_into(&mut stream, &largest)?;
-    assert_eq!(rt; stream.len(), CONTENT_LIMIT + 28);
+    assert_eq!(rt; stream.len(), 16_777_244);
     let outcome = read(alloc, &stream, 65_536)?;
     assert!(rt; outcome.border);
     assert_eq!(rt; outcome.bodies.len(), 1);

@@ -1,7 +1,7 @@
 ghost use Rattle.std.specs.Prelude.{◌≡◌, ℕ, ◌+◌, ◌≤◌, List, ◌++◌, length, OnOk, OnErr, vec_len, vec_capacity};
 ghost use Rattle.rpc_frame.specs.Frames.{BeginsWith, IsFrame, written_frame};
+ghost use Rattle.rpc_frame.specs.Limits.{content_limit};
 
-use crate::CONTENT_LIMIT;
 use itoa::Buffer;
 use ob_text::NoMemory;
 
@@ -13,7 +13,7 @@ const LINE_ENDS: &[u8; 4] = b"\r\n\r\n";
 
 /// Writes a content at the end, as one frame.
 pub fn frame_into(out: &mut Vec<u8>, body: &[u8]) -> Result<(), NoMemory>
-    requires { length body.now ≤ CONTENT_LIMIT }
+    requires { length body.now ≤ content_limit }
     ensures ok { OnOk result (out.new.items ≡ out.old.items ++ written_frame body.now) }
     ensures frame { IsFrame (written_frame body.now) body.now }
     ensures again { (after : List ℕ)
