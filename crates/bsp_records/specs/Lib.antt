@@ -8,6 +8,7 @@ pub mod Diagnostics
 pub mod Shown
 pub mod Table
 pub mod Params
+pub mod Requests
 pub mod Results
 pub mod ShortAnswers
 pub mod Tasks

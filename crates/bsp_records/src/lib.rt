@@ -11,6 +11,7 @@ mod numbers;
 mod params;
 mod publishing;
 mod reading;
+mod requests;
 mod results;
 mod shown;
 mod tasks;
@@ -33,6 +34,7 @@ pub use params::{
 pub use publishing::{
     PublishDiagnosticsParams, read_publish_diagnostics_params, write_publish_diagnostics_params,
 };
+pub use requests::{Method, Request, read_request};
 pub use results::{
     BuildTarget, BuildTargetCapabilities, BuildTargetsResult, CleanCacheResult, CompileResult,
     InverseSourcesResult, RunResult, SourceItem, SourceItemKind, SourcesItem, SourcesResult,

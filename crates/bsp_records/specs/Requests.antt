@@ -1,0 +1,71 @@
+-- The requests of the Build Server Protocol 2.2 that are answered: their methods, and what each asks by
+-- its params.
+use Rattle.std.specs.Prelude.{◌≡◌, ◌==◌, ℕ, List, [], ◌∷◌, codes, Option, Some, None, unwrap_or, Result, Ok, Err}
+use Rattle.std.specs.Cmp.Lexicographic.{pointwise}
+use Rattle.std.specs.List.{All, find}
+use Rattle.std.specs.Str.{IsUtf8}
+use Rattle.serde_json.specs.Data.{Data, null}
+use Rattle.bsp_records.specs.Params.{initialize_params, initialize_params_in, targets_params, sources_params_in, inverse_sources_params, inverse_sources_params_in, build_params, compile_params_in, IsTarget, HasInitializeTexts, HasCompileTexts}
+use Rattle.bsp_records.specs.Shapes.{Shape, bad_params}
+use Rattle.bsp_records.specs.declared.bad_params.BadParams.{BadParams}
+use Rattle.bsp_records.specs.declared.bad_params.BadParams.TheVariants.{At, NoMemory}
+use Rattle.bsp_records.specs.declared.requests.Method.{Method}
+use Rattle.bsp_records.specs.declared.requests.Method.TheVariants as methods
+use Rattle.bsp_records.specs.declared.requests.Request.{Request}
+use Rattle.bsp_records.specs.declared.requests.Request.TheVariants as requests
+
+-- ---- methods
+
+abbrev pub name_of : Method → List ℕ
+name_of methods.Initialize = codes "build/initialize"
+name_of methods.Shutdown = codes "build/shutdown"
+name_of methods.BuildTargets = codes "workspace/buildTargets"
+name_of methods.Sources = codes "buildTarget/sources"
+name_of methods.InverseSources = codes "buildTarget/inverseSources"
+name_of methods.Compile = codes "buildTarget/compile"
+
+abbrev pub answered_methods : List Method
+answered_methods =
+    methods.Initialize ∷ methods.Shutdown ∷ methods.BuildTargets
+    ∷ methods.Sources ∷ methods.InverseSources ∷ methods.Compile ∷ []
+
+-- the method that has this name, if any
+unfoldable pub method_named : List ℕ → Option Method
+method_named name = find (λ method. pointwise ◌==◌ (name_of method) name) answered_methods
+
+-- ---- what a request asks
+
+abbrev pub asked_unless : Option (List ℕ) → Request → Result Request (List ℕ)
+asked_unless None request = Ok request
+asked_unless (Some path) request = Err path
+
+-- Params of this shape make a request, and others are bad at the path of their first bad field. Where there
+-- are none, they are bad as null is.
+abbrev pub asked_by : Shape → (Data → Request) → Option Data → Result Request (List ℕ)
+asked_by shape of params = asked_unless (bad_params shape (unwrap_or params null)) (of (unwrap_or params null))
+
+-- the request of a method with these params, or the path of their first bad field; params that a method
+-- doesn't take aren't looked at
+abbrev pub request_in : Method → Option Data → Result Request (List ℕ)
+request_in methods.Initialize params = asked_by initialize_params (λ d. requests.Initialize (initialize_params_in d)) params
+request_in methods.Shutdown params = Ok requests.Shutdown
+request_in methods.BuildTargets params = Ok requests.BuildTargets
+request_in methods.Sources params = asked_by targets_params (λ d. requests.Sources (sources_params_in d)) params
+request_in methods.InverseSources params = asked_by inverse_sources_params (λ d. requests.InverseSources (inverse_sources_params_in d)) params
+request_in methods.Compile params = asked_by build_params (λ d. requests.Compile (compile_params_in d)) params
+
+-- What was read is the request that was asked, and a refusal has the path. Want of memory says nothing.
+abbrev pub ReadsAs : Result Request (List ℕ) → Result Request BadParams → Type 0
+ReadsAs asked (Ok request) = asked ≡ Ok request
+ReadsAs asked (Err (At path)) = asked ≡ Err path
+ReadsAs asked (Err NoMemory) = Unit {0}
+
+-- ---- texts
+
+abbrev pub HasRequestTexts : Request → Type 0
+HasRequestTexts (requests.Initialize p) = HasInitializeTexts p
+HasRequestTexts requests.Shutdown = Unit {0}
+HasRequestTexts requests.BuildTargets = Unit {0}
+HasRequestTexts (requests.Sources p) = All IsTarget p.targets
+HasRequestTexts (requests.InverseSources p) = IsUtf8 p.text_document.uri
+HasRequestTexts (requests.Compile p) = HasCompileTexts p
