@@ -1,0 +1,5 @@
+pub mod Entities
+pub mod Folding
+pub mod Memory
+pub mod Sizes
+pub mod Types

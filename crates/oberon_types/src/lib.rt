@@ -1,0 +1,19 @@
+//! What the declarations of a module are about: the types of Oberon-07, constants and their folding, what a
+//! name stands for outside of its module, and what a module shows to those that import it.
+//!
+//! It stands on the words of `ob_text` alone and knows nothing of trees, of scopes and of diagnostics. Begin
+//! reading at `specs/Types.antt`, the types as plain data with sameness, extension and assignability; then
+//! `Sizes.antt`, `Entities.antt` and `Folding.antt`. `Memory.antt` leads from the Rust types to the plain ones.
+#![tactic(auto)]
+
+mod constant;
+mod entity;
+mod origin;
+mod ty;
+mod value;
+
+pub use constant::{ConstExpr, FoldFault, FoldingFunction, Op};
+pub use entity::{Entity, Exports, Param, Signature, View};
+pub use origin::{Origin, Step};
+pub use ty::{Field, RecordTy, Ty, assignable, extends, same_type};
+pub use value::Value;
