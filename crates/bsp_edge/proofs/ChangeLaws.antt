@@ -6,43 +6,43 @@ use Rattle.std.specs.Str.{bytes_eq}
 use Rattle.std.proofs.lemmas.Bool.{and_cases, and_from, and_left, and_parts, and_right, cond-false, cond-true, leb-false, ne_eqb}
 use Rattle.std.proofs.lemmas.List.{reverse-append}
 use Rattle.ob_text.specs.declared.held.Held.{Held}
-use Rattle.bsp_edge.specs.Trees.{Change, left_by, put_by}
+use Rattle.bsp_edge.specs.Trees.{FileChange, left_by, put_by}
 
 -- what the latest of some changes put there, whose number is this; the number is 0 where there is none
-abbrev pub IsPut : List Change → List ℕ → ℕ → Option Held → Type 0
+abbrev pub IsPut : List FileChange → List ℕ → ℕ → Option Held → Type 0
 IsPut changes path zero left = left ≡ None
 IsPut changes path (suc number) left = (held : Held) × (put_by changes (suc number) path ≡ Some held) × (left ≡ Some held)
 
 -- the latest of these changes to a path before a call has this number, and left this there
-pub record IsLatest (changes : List Change) (call : ℕ) (path : List ℕ) (number : ℕ) (left : Option Held) : Type 0 where
+pub record IsLatest (changes : List FileChange) (call : ℕ) (path : List ℕ) (number : ℕ) (left : Option Held) : Type 0 where
   pub within : number ≤ call
   pub is : IsPut changes path number left
   pub none_later : (k : ℕ) → number < k → k ≤ call → put_by changes k path ≡ None
 
 -- the test of a change
-abbrev pub is_later : Change → ℕ → ℕ → List ℕ → Bool
+abbrev pub is_later : FileChange → ℕ → ℕ → List ℕ → Bool
 is_later change number call path = leb (max number 1) change.0 && leb change.0 call && bytes_eq change.1 path
 
-put_cond : (b : Bool) (change : Change) (rest : Option Change) → option_map (λ (x : Change). x.2) (cond b (Some change) rest) ≡ cond b (Some change.2) (option_map (λ (x : Change). x.2) rest)
+put_cond : (b : Bool) (change : FileChange) (rest : Option FileChange) → option_map (λ (x : FileChange). x.2) (cond b (Some change) rest) ≡ cond b (Some change.2) (option_map (λ (x : FileChange). x.2) rest)
 put_cond true change rest = refl
 put_cond false change rest = refl
 
 -- one more change
-put_by_push : (changes : List Change) (change : Change) (k : ℕ) (path : List ℕ) → put_by (changes ++ change ∷ []) k path ≡ cond (eqb change.0 k && bytes_eq change.1 path) (Some change.2) (put_by changes k path)
+put_by_push : (changes : List FileChange) (change : FileChange) (k : ℕ) (path : List ℕ) → put_by (changes ++ change ∷ []) k path ≡ cond (eqb change.0 k && bytes_eq change.1 path) (Some change.2) (put_by changes k path)
 put_by_push changes change k path =
-    let test : Change → Bool = λ (x : Change). eqb x.0 k && bytes_eq x.1 path in
-    ap (λ (xs : List Change). option_map (λ (x : Change). x.2) (find test xs)) (reverse-append changes (change ∷ []))
+    let test : FileChange → Bool = λ (x : FileChange). eqb x.0 k && bytes_eq x.1 path in
+    ap (λ (xs : List FileChange). option_map (λ (x : FileChange). x.2) (find test xs)) (reverse-append changes (change ∷ []))
     ∙ put_cond (eqb change.0 k && bytes_eq change.1 path) change (find test (reverse changes))
 
-put_by_other : (changes : List Change) (change : Change) (k : ℕ) (path : List ℕ) → (eqb change.0 k && bytes_eq change.1 path) ≡ false → put_by (changes ++ change ∷ []) k path ≡ put_by changes k path
+put_by_other : (changes : List FileChange) (change : FileChange) (k : ℕ) (path : List ℕ) → (eqb change.0 k && bytes_eq change.1 path) ≡ false → put_by (changes ++ change ∷ []) k path ≡ put_by changes k path
 put_by_other changes change k path fails =
     put_by_push changes change k path ∙ cond-false (eqb change.0 k && bytes_eq change.1 path) (Some change.2) (put_by changes k path) fails
 
-is_put : (changes : List Change) (path : List ℕ) (number : ℕ) (held : Held) → 0 < number → put_by changes number path ≡ Some held → IsPut changes path number (Some held)
+is_put : (changes : List FileChange) (path : List ℕ) (number : ℕ) (held : Held) → 0 < number → put_by changes number path ≡ Some held → IsPut changes path number (Some held)
 is_put changes path zero held some e = absurd (omega arith)
 is_put changes path (suc number) held some e = (held, e, refl)
 
-is_put_same : (changes more : List Change) (path : List ℕ) (number : ℕ) (left : Option Held) → (0 < number → put_by more number path ≡ put_by changes number path) → IsPut changes path number left → IsPut more path number left
+is_put_same : (changes more : List FileChange) (path : List ℕ) (number : ℕ) (left : Option Held) → (0 < number → put_by more number path ≡ put_by changes number path) → IsPut changes path number left → IsPut more path number left
 is_put_same changes more path zero left same is = is
 is_put_same changes more path (suc number) left same is = (is.0, same (omega arith) ∙ is.1, is.2)
 
@@ -50,7 +50,7 @@ pub latest_none : (call : ℕ) (path : List ℕ) → IsLatest [] call path 0 Non
 latest_none call path = record { within = omega arith; is = refl; none_later = λ k low high. refl }
 
 -- a change that is later is the latest
-pub latest_takes : (changes : List Change) (change : Change) (call : ℕ) (path : List ℕ) (number : ℕ) (left : Option Held) → is_later change number call path ≡ true → IsLatest changes call path number left → IsLatest (changes ++ change ∷ []) call path change.0 (Some change.2)
+pub latest_takes : (changes : List FileChange) (change : FileChange) (call : ℕ) (path : List ℕ) (number : ℕ) (left : Option Held) → is_later change number call path ≡ true → IsLatest changes call path number left → IsLatest (changes ++ change ∷ []) call path change.0 (Some change.2)
 latest_takes changes change call path number left later latest =
     let numbers = and_parts (leb (max number 1) change.0 && leb change.0 call) (bytes_eq change.1 path) later in
     let bounds = and_parts (leb (max number 1) change.0) (leb change.0 call) numbers.0 in
@@ -64,7 +64,7 @@ latest_takes changes change call path number left later latest =
     }
 
 -- one that isn't changes nothing from the latest on
-not_at : (change : Change) (number call : ℕ) (path : List ℕ) → is_later change number call path ≡ false → (k : ℕ) → 0 < k → number ≤ k → k ≤ call → (eqb change.0 k && bytes_eq change.1 path) ≡ false
+not_at : (change : FileChange) (number call : ℕ) (path : List ℕ) → is_later change number call path ≡ false → (k : ℕ) → 0 < k → number ≤ k → k ≤ call → (eqb change.0 k && bytes_eq change.1 path) ≡ false
 not_at change number call path earlier k some low high =
     elim (and_cases (leb (max number 1) change.0 && leb change.0 call) (bytes_eq change.1 path) earlier) [
       | inl out ↦ and_left (eqb change.0 k) (bytes_eq change.1 path) (elim (and_cases (leb (max number 1) change.0) (leb change.0 call) out) [
@@ -74,7 +74,7 @@ not_at change number call path earlier k some low high =
       | inr elsewhere ↦ and_right (eqb change.0 k) (bytes_eq change.1 path) elsewhere
     ]
 
-pub latest_keeps : (changes : List Change) (change : Change) (call : ℕ) (path : List ℕ) (number : ℕ) (left : Option Held) → is_later change number call path ≡ false → IsLatest changes call path number left → IsLatest (changes ++ change ∷ []) call path number left
+pub latest_keeps : (changes : List FileChange) (change : FileChange) (call : ℕ) (path : List ℕ) (number : ℕ) (left : Option Held) → is_later change number call path ≡ false → IsLatest changes call path number left → IsLatest (changes ++ change ∷ []) call path number left
 latest_keeps changes change call path number left earlier latest =
     let within = latest.within in
     record {
@@ -84,7 +84,7 @@ latest_keeps changes change call path number left earlier latest =
     }
 
 -- numbers without a change to the path change nothing there
-settles : (changes : List Change) (path : List ℕ) (number d : ℕ) → ((k : ℕ) → number < k → k ≤ number + d → put_by changes k path ≡ None) → left_by changes (number + d) path ≡ left_by changes number path
+settles : (changes : List FileChange) (path : List ℕ) (number d : ℕ) → ((k : ℕ) → number < k → k ≤ number + d → put_by changes k path ≡ None) → left_by changes (number + d) path ≡ left_by changes number path
 settles changes path number zero none =
     let e : number + 0 ≡ number = omega arith in
     ap (λ k. left_by changes k path) e
@@ -94,13 +94,13 @@ settles changes path number (suc d) none =
     ∙ (ap (λ o. option_or o (left_by changes (number + d) path)) (none (suc (number + d)) (omega arith) (omega arith))
     ∙ settles changes path number d (λ k low high. none k low (omega arith)))
 
-left_of_put : (changes : List Change) (path : List ℕ) (number : ℕ) (left : Option Held) → IsPut changes path number left → left_by changes number path ≡ left
+left_of_put : (changes : List FileChange) (path : List ℕ) (number : ℕ) (left : Option Held) → IsPut changes path number left → left_by changes number path ≡ left
 left_of_put changes path zero left is = sym is
 left_of_put changes path (suc number) left is =
     ap (λ o. option_or o (left_by changes number path)) is.1 ∙ sym is.2
 
 -- the latest decides
-pub latest_left : (changes : List Change) (call : ℕ) (path : List ℕ) (number : ℕ) (left : Option Held) → IsLatest changes call path number left → left_by changes call path ≡ left
+pub latest_left : (changes : List FileChange) (call : ℕ) (path : List ℕ) (number : ℕ) (left : Option Held) → IsLatest changes call path number left → left_by changes call path ≡ left
 latest_left changes call path number left latest =
     let within = latest.within in
     let e : call ≡ number + (call - number) = omega arith in

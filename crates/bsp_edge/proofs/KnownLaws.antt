@@ -4,10 +4,9 @@ use Rattle.std.specs.Prelude.{IfSome}
 use Rattle.std.specs.Io.KnownBytes.{Consumes, IsAtEnd, Keeps}
 use Rattle.std.proofs.lemmas.Bool.{cond-true, lt-ltb}
 use Rattle.std.proofs.lemmas.List.{append-nil}
-use Rattle.ob_text.specs.declared.held.TheConstants.{TEXT_LIMIT}
 use Rattle.ob_text.specs.declared.held.Held.{Held}
-use Rattle.ob_text.specs.declared.held.Held.TheVariants.{Text, TooLarge}
-use Rattle.bsp_edge.specs.Documents.{as_handed}
+use Rattle.ob_text.specs.declared.held.Held.TheVariants.{TooLarge}
+use Rattle.ob_text.specs.Held.{held_of, text_limit}
 
 pub keeps_same : (known : Option (List ℕ)) → Keeps known known
 keeps_same None = tt
@@ -44,17 +43,17 @@ consumes_append (Some whole) (Some left) (Some rest) xs ys first second =
     first ∙ (ap (λ bytes. xs ++ bytes) second ∙ sym (append_assoc xs ys rest))
 
 -- bytes that were taken up to the end are the whole
-pub whole_at_end : (whole left : Option (List ℕ)) (bytes : List ℕ) (held : Held) → Consumes whole left bytes → IsAtEnd left → held ≡ as_handed (Text bytes) → IfSome whole (λ all. held ≡ as_handed (Text all))
+pub whole_at_end : (whole left : Option (List ℕ)) (bytes : List ℕ) (held : Held) → Consumes whole left bytes → IsAtEnd left → held ≡ held_of bytes → IfSome whole (λ all. held ≡ held_of all)
 whole_at_end None left bytes held taken end is = tt
 whole_at_end (Some all) None bytes held taken end is = absurd taken
 whole_at_end (Some all) (Some rest) bytes held taken end is =
-    is ∙ ap (λ xs. as_handed (Text xs)) (sym (taken ∙ (ap (λ xs. bytes ++ xs) end ∙ append-nil bytes)))
+    is ∙ ap (λ xs. held_of xs) (sym (taken ∙ (ap (λ xs. bytes ++ xs) end ∙ append-nil bytes)))
 
 -- where more than the limit was taken, the whole is too large
-pub whole_too_large : (whole left : Option (List ℕ)) (bytes : List ℕ) → Consumes whole left bytes → TEXT_LIMIT < length bytes → IfSome whole (λ all. TooLarge ≡ as_handed (Text all))
+pub whole_too_large : (whole left : Option (List ℕ)) (bytes : List ℕ) → Consumes whole left bytes → text_limit < length bytes → IfSome whole (λ all. TooLarge ≡ held_of all)
 whole_too_large None left bytes taken long = tt
 whole_too_large (Some all) None bytes taken long = absurd taken
 whole_too_large (Some all) (Some rest) bytes taken long =
     let whole : length all ≡ length bytes + length rest = ap length taken ∙ length-append bytes rest in
-    let longer : TEXT_LIMIT < length all = omega arith in
-    sym (cond-true _ TooLarge _ (lt-ltb TEXT_LIMIT (length all) longer))
+    let longer : text_limit < length all = omega arith in
+    sym (cond-true _ TooLarge _ (lt-ltb text_limit (length all) longer))

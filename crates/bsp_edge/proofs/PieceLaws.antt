@@ -7,9 +7,9 @@ use Rattle.bsp_edge.specs.declared.reading.Got.{Got}
 use Rattle.bsp_edge.specs.declared.reading.Got.TheVariants.{Bytes, End, Quiet, Failed}
 
 -- a piece and what is left behind it are what was left
-pub piece_taken : (bytes front : List ℕ) (place count : ℕ) → front ≡ take count (drop place bytes) → drop place bytes ≡ front ++ drop (place + count) bytes
-piece_taken bytes front place count is =
-    sym (take-append-drop count (drop place bytes)) ∙ rw (is, drop-drop)
+pub piece_taken : (bytes front : List ℕ) (offset count : ℕ) → front ≡ take count (drop offset bytes) → drop offset bytes ≡ front ++ drop (offset + count) bytes
+piece_taken bytes front offset count is =
+    sym (take-append-drop count (drop offset bytes)) ∙ rw (is, drop-drop)
 
 -- a call that doesn't fail reads the next piece
 pub read_answers : (source : SourceState) (size : ℕ) (got : Got) → ¬ FailsNext source.calls → PieceAnswers source.left source.course source.cuts size got → ReadAnswers source size got

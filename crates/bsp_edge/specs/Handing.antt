@@ -1,15 +1,11 @@
 -- What one call of a tree does, by its answer. What a tree handed out is `None` where nobody tells.
 use Rattle.std.specs.Prelude.{◌≡◌, ℕ, List, [], ◌∷◌, ◌++◌, map, Option, Result, Ok, Err}
 use Rattle.std.specs.Option.{option_map}
-use Rattle.ob_text.specs.declared.held.Held.{Held}
 use Rattle.ob_text.specs.declared.held.Snapshot.{Snapshot}
+pub use Rattle.ob_text.specs.Held.{Entries}
 use Rattle.bsp_edge.specs.declared.handing.TreeFault.{TreeFault}
 use Rattle.bsp_edge.specs.declared.handing.TreeFault.TheVariants.{Failed, NoMemory}
 use Rattle.bsp_edge.specs.Faults.{Rose}
-
--- the entries of a snapshot: a path, and what was held there
-abbrev pub Entries : Type 0
-Entries = List (List ℕ × Held)
 
 -- the paths of a snapshot, in order
 abbrev pub paths_of : Entries → List (List ℕ)

@@ -1,5 +1,5 @@
 -- What a source in memory answers, and why.
-use Rattle.std.specs.Prelude.{◌≡◌, ℕ, ◌+◌, ◌<◌, ◌≤◌, List, length, All}
+use Rattle.std.specs.Prelude.{◌≡◌, ℕ, ◌+◌, ◌<◌, ◌≤◌, List, length, All, Option, IfSome}
 use Rattle.bsp_edge.specs.declared.reading.Got.{Got}
 use Rattle.bsp_edge.specs.declared.reading.Got.TheVariants.{Bytes, End, Quiet, Failed}
 use Rattle.bsp_edge.specs.Calls.{Calls, FailsNext, passed_call, failed_call}
@@ -9,33 +9,47 @@ use Rattle.bsp_edge.specs.Course.{Course}
 pub record SourceState : Type 0 where
   pub left : List ℕ
   pub course : Course
-  -- the places where a piece ends, beside the quiet places
+  -- the offsets where a piece ends, beside the quiet offsets
   pub cuts : List ℕ
   pub calls : Calls
 
--- a piece of `count` bytes from `place` passes none of the cuts
+-- a piece of `count` bytes from `offset` passes none of the cuts
 abbrev pub PassesNoCut : List ℕ → ℕ → ℕ → Type 0
-PassesNoCut cuts place count = All (λ cut. place < cut → place + count ≤ cut) cuts
+PassesNoCut cuts offset count = All (λ cut. offset < cut → offset + count ≤ cut) cuts
 
--- nor any of the quiet places
+-- nor any of the quiet offsets
 abbrev pub PassesNoQuiet : List (ℕ × ℕ) → ℕ → ℕ → Type 0
-PassesNoQuiet polls place count = All (λ quiet. place < quiet.0 → place + count ≤ quiet.0) polls
+PassesNoQuiet polls offset count = All (λ quiet. offset < quiet.0 → offset + count ≤ quiet.0) polls
 
 -- a piece of `count` bytes may be taken from what is left into `size` bytes
-pub record IsPiece (left : List ℕ) (course : Course) (cuts : List ℕ) (size count : ℕ) : Type 0 where
+pub record MayTake (left : List ℕ) (course : Course) (cuts : List ℕ) (size count : ℕ) : Type 0 where
   pub fits : count ≤ size
   pub there : count ≤ length left
-  pub uncut : PassesNoCut cuts course.place count
-  pub awake : PassesNoQuiet course.polls course.place count
+  pub uncut : PassesNoCut cuts course.offset count
+  pub awake : PassesNoQuiet course.polls course.offset count
 
 -- no longer piece may be taken
 pub record IsLongestPiece (left : List ℕ) (course : Course) (cuts : List ℕ) (size count : ℕ) : Type 0 where
-  pub piece : IsPiece left course cuts size count
-  pub longest : (other : ℕ) → IsPiece left course cuts size other → other ≤ count
+  pub piece : MayTake left course cuts size count
+  pub longest : (other : ℕ) → MayTake left course cuts size other → other ≤ count
 
--- no poll is left at this place
+-- no poll is left at this offset
 abbrev pub HasNoPoll : Course → Type 0
-HasNoPoll course = All (λ quiet. quiet.0 ≡ course.place → quiet.1 ≡ 0) course.polls
+HasNoPoll course = All (λ quiet. quiet.0 ≡ course.offset → quiet.1 ≡ 0) course.polls
+
+-- a piece that a `read` takes passes no quiet offset, where the course is told
+abbrev pub ReadStops : Option Course → Got → Type 0
+ReadStops told (Bytes count) = IfSome told (λ course. PassesNoQuiet course.polls course.offset count)
+ReadStops told End = Unit {0}
+ReadStops told Quiet = ⊥
+ReadStops told Failed = Unit {0}
+
+-- nor does one that a `poll` takes, which finds a piece or the end only where no poll is left
+abbrev pub PollStops : Option Course → Got → Type 0
+PollStops told (Bytes count) = IfSome told (λ course. HasNoPoll course × PassesNoQuiet course.polls course.offset count)
+PollStops told End = IfSome told HasNoPoll
+PollStops told Quiet = Unit {0}
+PollStops told Failed = Unit {0}
 
 -- what the next piece is, of a call that doesn't fail and isn't quiet
 abbrev pub PieceAnswers : List ℕ → Course → List ℕ → ℕ → Got → Type 0

@@ -26,7 +26,7 @@ ReadLeaves old new into End = StaysDry old new
 ReadLeaves old new into Quiet = new ≡ old
 ReadLeaves old new into Failed = new ≡ old
 
--- where the course is told, one of the polls left at this place is used up
+-- where the course is told, one of the polls left at this offset is used up
 abbrev pub QuietMoves : Option Course → Option Course → Type 0
 QuietMoves None new = new ≡ None
 QuietMoves (Some course) new = IsSomeAnd new (λ next. UsesPoll course next)

@@ -5,45 +5,44 @@ use Rattle.std.specs.Str.{bytes_eq}
 use Rattle.ob_text.specs.declared.held.Held.{Held}
 use Rattle.ob_text.specs.declared.held.Held.TheVariants.{Absent}
 use Rattle.ob_text.specs.declared.held.Snapshot.{Snapshot}
-use Rattle.ob_text.specs.Held.{held_at}
+use Rattle.ob_text.specs.Held.{Entries, held_at}
 use Rattle.bsp_edge.specs.declared.handing.TreeFault.{TreeFault}
 use Rattle.bsp_edge.specs.declared.handing.TreeFault.TheVariants.{Failed, NoMemory}
 use Rattle.bsp_edge.specs.Calls.{Calls, FailsNext, passed_call, failed_call}
 use Rattle.bsp_edge.specs.Documents.{as_handed}
 use Rattle.bsp_edge.specs.Faults.{counted}
-use Rattle.bsp_edge.specs.Handing.{Entries}
 
 -- the number of a call, a path, and what is held there from that call on
-abbrev pub Change : Type 0
-Change = ℕ × List ℕ × Held
+abbrev pub FileChange : Type 0
+FileChange = ℕ × List ℕ × Held
 
 -- a tree in memory
 pub record TreeState : Type 0 where
   -- the files before all changes
   pub files : Entries
-  pub changes : List Change
+  pub changes : List FileChange
   -- the snapshots handed out, oldest first
   pub handed : List Entries
   pub calls : Calls
 
 -- what the last change of this number to this path put there
-abbrev pub put_by : List Change → ℕ → List ℕ → Option Held
+abbrev pub put_by : List FileChange → ℕ → List ℕ → Option Held
 put_by changes number path =
     option_map (λ change. change.2) (find (λ change. (change.0 == number) && bytes_eq change.1 path) (reverse changes))
 
 -- what the changes of the numbers from 1 to a call's, made one after another, left at this path
-abbrev pub left_by : List Change → ℕ → List ℕ → Option Held
+abbrev pub left_by : List FileChange → ℕ → List ℕ → Option Held
 left_by changes zero path = None
 left_by changes (suc call) path = option_or (put_by changes (suc call) path) (left_by changes call path)
 
 -- what a path holds at a call, counted from 1
-abbrev pub held_by : Entries → List Change → ℕ → List ℕ → Held
-held_by files changes call path = unwrap_or (option_or (left_by changes call path) (held_at files path)) Absent
+abbrev pub held_in_call : Entries → List FileChange → ℕ → List ℕ → Held
+held_in_call files changes call path = unwrap_or (option_or (left_by changes call path) (held_at files path)) Absent
 
 -- what the next call hands out of these paths
 abbrev pub next_entries : TreeState → List (List ℕ) → Entries
 next_entries tree paths =
-    map (λ path. (path, as_handed (held_by tree.files tree.changes (counted tree.calls.made) path))) paths
+    map (λ path. (path, as_handed (held_in_call tree.files tree.changes (counted tree.calls.made) path))) paths
 
 -- what a call that is asked for these paths answers
 abbrev pub TreeAnswers : TreeState → List (List ℕ) → Result Snapshot TreeFault → Type 0

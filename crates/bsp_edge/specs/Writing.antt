@@ -6,14 +6,14 @@ use Rattle.bsp_edge.specs.Faults.{Rose}
 use Rattle.bsp_edge.specs.Streams.{Gives}
 
 -- the first `count` bytes of `piece` were added behind what was given
-pub record GivesFront (old new : Option (List ℕ)) (piece : List ℕ) (count : ℕ) : Type 0 where
+pub record TookFront (old new : Option (List ℕ)) (piece : List ℕ) (count : ℕ) : Type 0 where
   pub some : 0 < count
   pub within : count ≤ length piece
   pub given : Gives old new (take count piece)
 
 -- what becomes of the bytes that were given
 abbrev pub WriteGives : Option (List ℕ) → Option (List ℕ) → List ℕ → Put → Type 0
-WriteGives old new piece (Took count) = GivesFront old new piece count
+WriteGives old new piece (Took count) = TookFront old new piece count
 WriteGives old new piece Failed = new ≡ old
 
 -- what becomes of the count of faults

@@ -1,36 +1,22 @@
 ghost use Rattle.std.specs.Prelude.{◌≡◌, ◌<◌, ℕ, List, Option, length, vec_len, IfOk, IfSome};
 ghost use Rattle.std.specs.Bool.{OnTrue, OnFalse};
 ghost use Rattle.std.specs.Io.KnownBytes.{Consumes, IsAtEnd};
-ghost use Rattle.bsp_edge.specs.Documents.{IsReadable, as_handed};
+ghost use Rattle.ob_text.specs.Held.{IsReadable, held_of};
+ghost use Rattle.bsp_edge.specs.Documents.{as_handed};
 
 use crate::handing::TreeFault;
 use crate::reading::Got;
 use crate::streams::read_piece;
-use ob_text::{Held, NoMemory, TEXT_LIMIT, Text};
+use ob_text::{Held, NoMemory, TEXT_LIMIT};
 use std::alloc::Global;
 use std::io::Read;
-use std::str;
-
-/// What is handed out of a file of these bytes.
-#[tactic(auto, using(crate::proofs::DocumentLaws::not_utf8, crate::proofs::DocumentLaws::is_utf8_true))]
-pub(crate) fn document(bytes: Vec<u8>) -> Held
-    ensures { result ≡ as_handed (Held.Text bytes.items) }
-{
-    if bytes.len() > TEXT_LIMIT {
-        Held::TooLarge
-    } else if str::from_utf8(bytes.as_slice()).is_ok() {
-        Held::Text(Text::from_vec(bytes))
-    } else {
-        Held::NotText
-    }
-}
 
 /// What is handed out where a file holds this, as a value of its own.
 pub(crate) fn handed_copy(alloc: Global, held: &Held) -> Result<Held, NoMemory>
     ensures { IfOk result (λ copy. copy ≡ as_handed held.now) }
 {
     match held {
-        Held::Text(text) => Ok(document(text.copy(alloc)?.into_vec())),
+        Held::Text(text) => Ok(Held::from_bytes(text.copy(alloc)?.into_vec())),
         Held::Absent => Ok(Held::Absent),
         Held::TooLarge => Ok(Held::TooLarge),
         Held::NotText => Ok(Held::NotText),
@@ -46,13 +32,13 @@ pub(crate) fn read_document<I: Read>(
     requires { 0 < length buffer.old }
     ensures readable { IfOk result IsReadable }
     ensures told { IfOk result (λ held. IfSome (I.remaining input.old)
-        (λ bytes. held ≡ as_handed (Held.Text bytes))) }
+        (λ bytes. held ≡ held_of bytes)) }
 {
     let mut bytes = Vec::new(alloc);
     while bytes.len() <= TEXT_LIMIT {
         let room = (TEXT_LIMIT + 1 - bytes.len()).min(buffer.len());
         if !read_more(input, &mut buffer[..room], &mut bytes)? {
-            return Ok(document(bytes));
+            return Ok(Held::from_bytes(bytes));
         }
     }
     Ok(Held::TooLarge)

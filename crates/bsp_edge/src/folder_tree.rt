@@ -1,13 +1,13 @@
 ghost use Rattle.std.specs.Prelude.{◌≡◌, ◌<◌, None, length, vec_len, IfOk};
 ghost use Rattle.std.specs.List.{All};
-ghost use Rattle.bsp_edge.specs.Documents.{IsReadable};
+ghost use Rattle.ob_text.specs.Held.{IsReadable};
 ghost use Rattle.bsp_edge.specs.Handing.{HandFaults, HandsOut, paths_of};
 
 use crate::document::read_document;
 use crate::handing::{Tree, TreeFault};
 use ob_text::{Held, Items, Path, Snapshot, Text};
 use std::alloc::{AllocError, Global};
-use std::fs::File;
+use std::fs::{self, File};
 use std::io::ErrorKind;
 use std::path::{self, PathBuf};
 use std::rt::Files;
@@ -17,7 +17,8 @@ use std::str;
 const PIECE: usize = 65_536;
 
 /// The files below a folder. It tells nothing of their contents. Each file is read anew each time that
-/// it is asked for. A fault of reading, as at a folder in a file's place, fails the call.
+/// it is asked for. A fault of reading fails the call, and so does what is no regular file: a folder, a
+/// FIFO, a device or a socket in a file's place. A link counts as what it leads to.
 #[derive(Drop)]
 pub struct FolderTree<R> {
     runtime: R,
@@ -55,18 +56,26 @@ impl<R: Files> FolderTree<R> {
         })
     }
 
-    /// No entry, or a parent that is no folder, is Absent.
+    /// Opens nothing but a regular file, since the open of a FIFO may wait for good.
     fn read_file(&self, path: &Path, buffer: &mut [u8]) -> Result<Held, TreeFault>
         requires { 0 < length buffer.old }
         ensures { IfOk result IsReadable }
     {
         let name = name_of(self.alloc, self.folder.as_slice(), path.as_slice())?;
+        match fs::metadata(&self.runtime, name.as_path()) {
+            Ok(metadata) if metadata.is_file() => self.read_regular(name, buffer),
+            Ok(_) => Err(TreeFault::Failed),
+            Err(error) => absent_where_missing(error.kind()),
+        }
+    }
+
+    fn read_regular(&self, name: PathBuf, buffer: &mut [u8]) -> Result<Held, TreeFault>
+        requires { 0 < length buffer.old }
+        ensures { IfOk result IsReadable }
+    {
         match File::open(&self.runtime, name) {
             Ok(mut file) => read_document(self.alloc, &mut file, buffer),
-            Err(error) => match error.kind() {
-                ErrorKind::NotFound | ErrorKind::NotADirectory => Ok(Held::Absent),
-                _ => Err(TreeFault::Failed),
-            },
+            Err(error) => absent_where_missing(error.kind()),
         }
     }
 }
@@ -86,6 +95,16 @@ impl<R: Files> Tree for FolderTree<R> {
             }
             Err(TreeFault::NoMemory) => Err(TreeFault::NoMemory),
         }
+    }
+}
+
+/// No entry, or a parent that is no folder, is Absent.
+fn absent_where_missing(kind: ErrorKind) -> Result<Held, TreeFault>
+    ensures { IfOk result IsReadable }
+{
+    match kind {
+        ErrorKind::NotFound | ErrorKind::NotADirectory => Ok(Held::Absent),
+        _ => Err(TreeFault::Failed),
     }
 }
 

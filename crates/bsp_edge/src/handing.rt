@@ -1,7 +1,7 @@
 ghost use Rattle.std.specs.Prelude.{◌≡◌, ℕ, List, Option, IfOk};
 ghost use Rattle.std.specs.List.{All};
 ghost use Rattle.ob_text.specs.declared.held.Held.{Held};
-ghost use Rattle.bsp_edge.specs.Documents.{IsReadable};
+ghost use Rattle.ob_text.specs.Held.{IsReadable};
 ghost use Rattle.bsp_edge.specs.Handing.{HandFaults, HandsOut, paths_of};
 ghost use Rattle.bsp_edge.specs.declared.handing.TreeFault.TheVariants.{NoMemory};
 

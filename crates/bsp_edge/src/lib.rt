@@ -1,5 +1,9 @@
-//! The outside of the program: where its bytes and the texts of files come from and where its bytes go,
-//! with sources, sinks and trees in memory that tell their contents, and the real ones.
+//! The outside of the program: where its bytes and the texts of files come from, and where its bytes go.
+//!
+//! `Source`, `Sink` and `Tree` say what a call of each does, by its answer. `MemSource`, `MemSink` and
+//! `MemTree` tell all that they hold, and fail where they were told to. `StdinSource`, `RealSink` and
+//! `FolderTree` are the real ones, and tell nothing of their contents. The crate stands on `ob_text` and
+//! knows nothing of frames. Begin with `reading.rt`, `writing.rt` and `handing.rt`.
 #![tactic(auto)]
 
 mod calls;

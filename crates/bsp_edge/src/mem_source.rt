@@ -3,8 +3,8 @@ ghost use Rattle.std.specs.Bool.{OnTrue, OnFalse};
 ghost use Rattle.std.specs.List.Sorted.{IsNonDecreasing, IsNonDecreasingBy};
 ghost use Rattle.std.specs.List.{AllWithin};
 ghost use Rattle.bsp_edge.specs.Course.{UsesPoll};
-ghost use Rattle.bsp_edge.specs.Orders.{rank};
-ghost use Rattle.bsp_edge.specs.Pieces.{HasNoPoll, IsLongestPiece, PassesNoCut, PassesNoQuiet, PieceAnswers, PollAnswers, ReadAnswers, calls_after};
+ghost use Rattle.bsp_edge.specs.Orders.{quiet_rank};
+ghost use Rattle.bsp_edge.specs.Pieces.{HasNoPoll, IsLongestPiece, PassesNoCut, PassesNoQuiet, PieceAnswers, PollAnswers, PollStops, ReadAnswers, ReadStops, calls_after};
 ghost use Rattle.bsp_edge.specs.Reading.{ReadFaults, ReadLeaves, ReadMoves};
 
 use crate::calls::FailingCalls;
@@ -16,7 +16,7 @@ use std::marker::Model;
 #[derive(Drop)]
 pub struct MemSource {
     bytes: Vec<u8>,
-    place: usize,
+    offset: usize,
     began: usize,
     cuts: Vec<u64>,
     quiet: Vec<(u64, u32)>,
@@ -31,19 +31,19 @@ impl Model for MemSource {
     ghost Value = { SourceState };
 
     ghost view = { λ source. record {
-      left = drop source.place source.bytes.items;
-      course = record { place = source.place; began = source.began; polls = source.quiet.items };
+      left = drop source.offset source.bytes.items;
+      course = record { offset = source.offset; began = source.began; polls = source.quiet.items };
       cuts = source.cuts.items;
       calls = source.calls;
     } };
 
     ghost invariant = { λ source.
-        IsInOrder source.place (length source.bytes.items) source.cuts.items source.quiet.items };
+        IsInOrder source.offset (length source.bytes.items) source.cuts.items source.quiet.items };
 }
 
 impl MemSource {
-    /// A source of `bytes`. A place is a number of bytes from the start. A piece ends at each cut and
-    /// at each quiet place. At a quiet place the stated number of polls answer Quiet. The calls with
+    /// A source of `bytes`. An offset is a number of bytes from the start. A piece ends at each cut and
+    /// at each quiet offset. At a quiet offset the stated number of polls answer Quiet. The calls with
     /// the ordinals in `failing` fail, reads and polls counted together from 1.
     pub fn new(
         bytes: Vec<u8>,
@@ -52,7 +52,7 @@ impl MemSource {
         failing: Vec<u64>,
     ) -> MemSource
         ensures left { result.left ≡ bytes.items }
-        ensures place { result.course.place ≡ 0 }
+        ensures offset { result.course.offset ≡ 0 }
         ensures began { result.course.began ≡ 0 }
         ensures quiet { IsPermutation quiet.items result.course.polls }
         ensures cuts { IsPermutation cuts.items result.cuts }
@@ -64,7 +64,7 @@ impl MemSource {
         quiet.sort_unstable();
         MemSource {
             bytes,
-            place: 0,
+            offset: 0,
             began: 0,
             cuts,
             quiet,
@@ -81,20 +81,20 @@ impl MemSource {
         ensures cuts { self.new.cuts ≡ self.old.cuts }
         ensures calls { self.new.calls ≡ self.old.calls }
     {
-        let (_, left) = self.bytes.as_slice().split_at(self.place);
+        let (_, left) = self.bytes.as_slice().split_at(self.offset);
         let room = left.len().min(into.len());
         if room == 0 {
             return Got::End;
         }
-        let uncut = upto_cut(self.cuts.as_slice(), self.place, room);
-        let count = upto_quiet(self.quiet.as_slice(), self.place, uncut);
+        let uncut = upto_cut(self.cuts.as_slice(), self.offset, room);
+        let count = upto_quiet(self.quiet.as_slice(), self.offset, uncut);
         copy_front(left, into, count);
-        self.began = self.place;
-        self.place += count;
+        self.began = self.offset;
+        self.offset += count;
         Got::Bytes(count)
     }
 
-    /// Uses up a poll at this place, if one is left there.
+    /// Uses up a poll at this offset, if one is left there.
     fn use_poll(&mut self) -> bool
         ensures used { OnTrue result (UsesPoll self.old.course self.new.course) }
         ensures none { OnFalse result (HasNoPoll self.old.course) }
@@ -103,13 +103,13 @@ impl MemSource {
         ensures cuts { self.new.cuts ≡ self.old.cuts }
         ensures calls { self.new.calls ≡ self.old.calls }
     {
-        let place = self.place as u64;
-        let first = polls_passed(self.quiet.as_slice(), place);
+        let offset = self.offset as u64;
+        let first = polls_passed(self.quiet.as_slice(), offset);
         if first == self.quiet.len() {
             return false;
         }
         let (stop, polls) = self.quiet[first];
-        if stop != place {
+        if stop != offset {
             return false;
         }
         self.quiet[first] = (stop, polls - 1);
@@ -129,6 +129,7 @@ impl Source for MemSource {
         requires { 0 < length into.old }
         ensures left { ReadLeaves (Some self.old.left) (Some self.new.left) into.new result }
         ensures course { ReadMoves (Some self.old.course) (Some self.new.course) result }
+        ensures stops { ReadStops (Some self.old.course) result }
         ensures faults { ReadFaults self.old.calls.faults self.new.calls.faults result }
         ensures awake { result ≢ Got.Quiet }
         ensures answer { ReadAnswers self.old (length into.old) result }
@@ -146,6 +147,7 @@ impl Source for MemSource {
         requires { 0 < length into.old }
         ensures left { ReadLeaves (Some self.old.left) (Some self.new.left) into.new result }
         ensures course { ReadMoves (Some self.old.course) (Some self.new.course) result }
+        ensures stops { PollStops (Some self.old.course) result }
         ensures faults { ReadFaults self.old.calls.faults self.new.calls.faults result }
         ensures answer { PollAnswers self.old (length into.old) result }
         ensures cuts { self.new.cuts ≡ self.old.cuts }
@@ -170,80 +172,80 @@ fn copy_front(from: &[u8], into: &mut [u8], count: usize)
     into[..count].copy_from_slice(&from[..count]);
 }
 
-/// The longest piece of at most `room` bytes from `place` that passes no cut.
-fn upto_cut(cuts: &[u64], place: usize, room: usize) -> usize
+/// The longest piece of at most `room` bytes from `offset` that passes no cut.
+fn upto_cut(cuts: &[u64], offset: usize, room: usize) -> usize
     requires { IsNonDecreasing cuts.now }
     ensures room { result ≤ room }
     ensures some { 0 < room → 0 < result }
-    ensures cuts { PassesNoCut cuts.now place result }
-    ensures longest { (other : ℕ) → other ≤ room → PassesNoCut cuts.now place other → other ≤ result }
+    ensures cuts { PassesNoCut cuts.now offset result }
+    ensures longest { (other : ℕ) → other ≤ room → PassesNoCut cuts.now offset other → other ≤ result }
 {
-    let next = cuts_passed(cuts, place as u64);
+    let next = cuts_passed(cuts, offset as u64);
     if next == cuts.len() {
         return room;
     }
-    upto(cuts[next], place, room)
+    upto(cuts[next], offset, room)
 }
 
-/// The longest piece of at most `room` bytes from `place` that passes no quiet place.
-fn upto_quiet(quiet: &[(u64, u32)], place: usize, room: usize) -> usize
-    requires { IsNonDecreasingBy rank quiet.now }
+/// The longest piece of at most `room` bytes from `offset` that passes no quiet offset.
+fn upto_quiet(quiet: &[(u64, u32)], offset: usize, room: usize) -> usize
+    requires { IsNonDecreasingBy quiet_rank quiet.now }
     ensures room { result ≤ room }
     ensures some { 0 < room → 0 < result }
-    ensures quiet { PassesNoQuiet quiet.now place result }
-    ensures longest { (other : ℕ) → other ≤ room → PassesNoQuiet quiet.now place other → other ≤ result }
+    ensures quiet { PassesNoQuiet quiet.now offset result }
+    ensures longest { (other : ℕ) → other ≤ room → PassesNoQuiet quiet.now offset other → other ≤ result }
 {
-    let next = quiet_passed(quiet, place as u64);
+    let next = quiet_passed(quiet, offset as u64);
     if next == quiet.len() {
         return room;
     }
-    upto(quiet[next].0, place, room)
+    upto(quiet[next].0, offset, room)
 }
 
-/// The bytes from `place` to `stop`, at most `room` of them.
-fn upto(stop: u64, place: usize, room: usize) -> usize
-    requires { place < stop }
-    ensures { result ≡ min room (stop - place) }
+/// The bytes from `offset` to `stop`, at most `room` of them.
+fn upto(stop: u64, offset: usize, room: usize) -> usize
+    requires { offset < stop }
+    ensures { result ≡ min room (stop - offset) }
 {
-    let ahead = (stop - place as u64) as usize;
+    let ahead = (stop - offset as u64) as usize;
     ahead.min(room)
 }
 
-/// How many cuts are at `place` or before it. They stand first.
-fn cuts_passed(cuts: &[u64], place: u64) -> usize
+/// How many cuts are at `offset` or before it. They stand first.
+fn cuts_passed(cuts: &[u64], offset: u64) -> usize
     requires { IsNonDecreasing cuts.now }
     ensures within { result ≤ length cuts.now }
-    ensures passed { AllWithin (λ cut. cut ≤ place) cuts.now 0 result }
-    ensures ahead { AllWithin (λ cut. place < cut) cuts.now result (length cuts.now) }
+    ensures passed { AllWithin (λ cut. cut ≤ offset) cuts.now 0 result }
+    ensures ahead { AllWithin (λ cut. offset < cut) cuts.now result (length cuts.now) }
 {
-    cuts.partition_point(|cut| *cut <= place)
+    cuts.partition_point(|cut| *cut <= offset)
 }
 
-/// How many quiet places are at `place` or before it. They stand first.
-fn quiet_passed(quiet: &[(u64, u32)], place: u64) -> usize
-    requires { IsNonDecreasingBy rank quiet.now }
+/// How many quiet offsets are at `offset` or before it. They stand first.
+fn quiet_passed(quiet: &[(u64, u32)], offset: u64) -> usize
+    requires { IsNonDecreasingBy quiet_rank quiet.now }
     ensures within { result ≤ length quiet.now }
-    ensures passed { AllWithin (λ stop. stop.0 ≤ place) quiet.now 0 result }
-    ensures ahead { AllWithin (λ stop. place < stop.0) quiet.now result (length quiet.now) }
+    ensures passed { AllWithin (λ stop. stop.0 ≤ offset) quiet.now 0 result }
+    ensures ahead { AllWithin (λ stop. offset < stop.0) quiet.now result (length quiet.now) }
 {
-    quiet.partition_point(|stop| stop.0 <= place)
+    quiet.partition_point(|stop| stop.0 <= offset)
 }
 
-/// How many quiet places are before `place`, or at it with no poll left. They stand first.
-fn polls_passed(quiet: &[(u64, u32)], place: u64) -> usize
-    requires { IsNonDecreasingBy rank quiet.now }
+/// How many quiet offsets are before `offset`, or at it with no poll left. They stand first.
+fn polls_passed(quiet: &[(u64, u32)], offset: u64) -> usize
+    requires { IsNonDecreasingBy quiet_rank quiet.now }
     ensures within { result ≤ length quiet.now }
-    ensures passed { AllWithin (λ stop. rank stop < 2 * place + 1) quiet.now 0 result }
-    ensures ahead { AllWithin (λ stop. 2 * place + 1 ≤ rank stop) quiet.now result (length quiet.now) }
+    ensures passed { AllWithin (λ stop. quiet_rank stop < 2 * offset + 1) quiet.now 0 result }
+    ensures ahead { AllWithin (λ stop. 2 * offset + 1 ≤ quiet_rank stop) quiet.now result (length quiet.now) }
 {
-    quiet.partition_point(|stop| is_spent(*stop, place))
+    quiet.partition_point(|stop| is_spent(*stop, offset))
 }
 
-/// Is this quiet place before `place`, or at it with no poll left?
-fn is_spent(stop: (u64, u32), place: u64) -> bool
-    ensures { result ≡ nat_lt (rank stop) (2 * place + 1) }
+/// Is this quiet offset before `offset`, or at it with no poll left?
+fn is_spent(stop: (u64, u32), offset: u64) -> bool
+    ensures { result ≡ nat_lt (quiet_rank stop) (2 * offset + 1) }
 {
-    stop.0 < place || (stop.0 == place && stop.1 == 0)
+    stop.0 < offset || (stop.0 == offset && stop.1 == 0)
 }
 
 #[cfg(test)]
@@ -260,7 +262,7 @@ mod tests {
         source.poll(into)
     }
 
-    /// A source of `bytes` with these cuts, quiet places and failing calls.
+    /// A source of `bytes` with these cuts, quiet offsets and failing calls.
     fn made(
         alloc: Global,
         bytes: &[u8],
@@ -292,7 +294,7 @@ mod tests {
     }
 
     #[test]
-    fn quiet_places_have_their_polls(rt: HostRuntime) -> Result<(), Fail> {
+    fn quiet_offsets_have_their_polls(rt: HostRuntime) -> Result<(), Fail> {
         let quiet = [(4, 9), (2, 1), (0, 1), (2, 2), (6, 1)];
         let mut source = made(rt.alloc(), b"abcdef", &[], &quiet, &[])?;
         let mut into = [0; 8];

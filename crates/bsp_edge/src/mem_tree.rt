@@ -2,10 +2,10 @@ ghost use Rattle.std.specs.Prelude.{◌≡◌, ◌≤◌, ◌&&◌, ◌==◌, na
 ghost use Rattle.std.specs.List.{All};
 ghost use Rattle.std.specs.Option.{option_copied, option_or};
 ghost use Rattle.std.specs.Str.{bytes_eq};
-ghost use Rattle.ob_text.specs.Held.{held_at};
-ghost use Rattle.bsp_edge.specs.Documents.{IsReadable, as_handed};
+ghost use Rattle.ob_text.specs.Held.{IsReadable, held_at};
+ghost use Rattle.bsp_edge.specs.Documents.{as_handed};
 ghost use Rattle.bsp_edge.specs.Handing.{HandFaults, HandsOut, paths_of};
-ghost use Rattle.bsp_edge.specs.Trees.{TreeAnswers, calls_asked, held_by, left_by};
+ghost use Rattle.bsp_edge.specs.Trees.{TreeAnswers, calls_asked, held_in_call, left_by};
 
 use crate::calls::FailingCalls;
 use crate::document::handed_copy;
@@ -74,7 +74,7 @@ impl MemTree {
     /// What a call hands out of these paths.
     fn snapshot(&self, call: u64, paths: &[Path]) -> Result<Snapshot, NoMemory>
         ensures { IfOk result (λ snapshot. snapshot.entries
-            ≡ map (λ path. (path, as_handed (held_by self.now.files self.now.changes call path))) paths.now) }
+            ≡ map (λ path. (path, as_handed (held_in_call self.now.files self.now.changes call path))) paths.now) }
     {
         let mut entries = Vec::new(self.alloc);
         for path in paths {
@@ -88,7 +88,7 @@ impl MemTree {
 
     /// What a call hands out of this path.
     fn handed_at(&self, call: u64, path: &Path) -> Result<Held, NoMemory>
-        ensures { IfOk result (λ held. held ≡ as_handed (held_by self.now.files self.now.changes call path.now)) }
+        ensures { IfOk result (λ held. held ≡ as_handed (held_in_call self.now.files self.now.changes call path.now)) }
     {
         if let Some(held) = left_at(self.changes.as_slice(), call, path) {
             return handed_copy(self.alloc, held);

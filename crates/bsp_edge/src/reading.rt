@@ -1,5 +1,6 @@
 ghost use Rattle.std.specs.Prelude.{◌≢◌, ℕ, ◌<◌, List, Option, length};
 ghost use Rattle.bsp_edge.specs.Course.{Course};
+ghost use Rattle.bsp_edge.specs.Pieces.{PollStops, ReadStops};
 ghost use Rattle.bsp_edge.specs.Reading.{ReadFaults, ReadLeaves, ReadMoves};
 
 /// What a call of a source answers.
@@ -31,6 +32,7 @@ pub trait Source {
         requires { 0 < length into.old }
         ensures left { ReadLeaves (left self.old) (left self.new) into.new result }
         ensures course { ReadMoves (course self.old) (course self.new) result }
+        ensures stops { ReadStops (course self.old) result }
         ensures faults { ReadFaults (faults self.old) (faults self.new) result }
         ensures awake { result ≢ Got.Quiet };
 
@@ -39,5 +41,6 @@ pub trait Source {
         requires { 0 < length into.old }
         ensures left { ReadLeaves (left self.old) (left self.new) into.new result }
         ensures course { ReadMoves (course self.old) (course self.new) result }
+        ensures stops { PollStops (course self.old) result }
         ensures faults { ReadFaults (faults self.old) (faults self.new) result };
 }

@@ -1,7 +1,6 @@
 use super::*;
-use ob_text::TEXT_LIMIT;
 use std::test::Fail;
-use std::{env, fs, process};
+use std::{env, process};
 
 fn read_all<T: Tree>(tree: &mut T, paths: &[Path]) -> Result<Snapshot, TreeFault> {
     tree.read_all(paths)
@@ -55,9 +54,9 @@ fn is_text(held: &Result<Held, u64>, want: &[u8]) -> bool {
 fn reads_a_folder(rt: HostRuntime) -> Result<(), Fail> {
     let folder = folder_name(&rt)?;
     make_folder(&rt, &folder)?;
-    put_bytes(&rt, &folder, "largest", TEXT_LIMIT)?;
-    put_bytes(&rt, &folder, "larger", TEXT_LIMIT + 1)?;
-    let largest = zeros(rt.alloc(), TEXT_LIMIT)?;
+    put_bytes(&rt, &folder, "largest", 262_144)?;
+    put_bytes(&rt, &folder, "larger", 262_145)?;
+    let largest = zeros(rt.alloc(), 262_144)?;
     assert!(rt; is_text(&held_at(rt, &folder, "A.Mod")?, b"MODULE A; END A."));
     assert!(rt; is_text(&held_at(rt, &folder, "lib/B.Mod")?, b""));
     assert!(rt; is_text(&held_at(rt, &folder, "largest")?, largest.as_slice()));
@@ -68,6 +67,7 @@ fn reads_a_folder(rt: HostRuntime) -> Result<(), Fail> {
         ("A.Mod/D.Mod", Ok(Held::Absent)),
         ("none/E.Mod", Ok(Held::Absent)),
         ("lib", Err(1)),
+        ("/dev/null", Err(1)),
     ] {
         assert!(rt; held_at(rt, &folder, name)? == want);
     }

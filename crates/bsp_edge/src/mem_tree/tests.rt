@@ -1,5 +1,5 @@
 use super::*;
-use ob_text::{TEXT_LIMIT, Text};
+use ob_text::Text;
 use std::test::Fail;
 
 fn read_all<T: Tree>(tree: &mut T, paths: &[Path]) -> Result<Snapshot, TreeFault> {
@@ -101,9 +101,9 @@ fn handed(alloc: Global, byte: u8, size: usize) -> Result<Held, Fail> {
 fn hands_out_documents_alone(rt: HostRuntime) -> Result<(), Fail> {
     let alloc = rt.alloc();
     for (byte, size, want) in [
-        (b'$', TEXT_LIMIT + 1, Held::TooLarge),
-        (255, TEXT_LIMIT + 1, Held::TooLarge),
-        (255, TEXT_LIMIT, Held::NotText),
+        (b'$', 262_145, Held::TooLarge),
+        (255, 262_145, Held::TooLarge),
+        (255, 262_144, Held::NotText),
     ] {
         assert!(rt; handed(alloc, byte, size)? == want);
     }

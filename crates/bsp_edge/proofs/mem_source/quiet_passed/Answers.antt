@@ -1,17 +1,17 @@
 use Rattle.std.proofs.Common.{leb, leb-true, rules}
 use Rattle.std.proofs.lemmas.Bool.{leb-false}
 use Rattle.std.proofs.lemmas.List.Sorted.{IsPartitionPoint-from_clause, IsPartitionedBy-leb}
-use Rattle.bsp_edge.proofs.PollLaws.{places_rise}
+use Rattle.bsp_edge.proofs.PollLaws.{offsets_rise}
 use Rattle.bsp_edge.proofs.mem_source.quiet_passed.Goals as goal
 
 pub returns-clause-passed : goal.returns-clause-passed
 returns-clause-passed c =
-    let parted = IsPartitionedBy-leb (λ stop. stop.0) _ c.args.place (places_rise _ c.requires) in
-    let point = IsPartitionPoint-from_clause (λ stop. leb stop.0 c.args.place) _ _ c.partition_point.ensures.partitioned parted (λ a r q k. search rules) in
+    let parted = IsPartitionedBy-leb (λ stop. stop.0) _ c.args.offset (offsets_rise _ c.requires) in
+    let point = IsPartitionPoint-from_clause (λ stop. leb stop.0 c.args.offset) _ _ c.partition_point.ensures.partitioned parted (λ a r q k. search rules) in
     λ k d low below. leb-true _ _ (point.0 k d low below)
 
 pub returns-clause-ahead : goal.returns-clause-ahead
 returns-clause-ahead c =
-    let parted = IsPartitionedBy-leb (λ stop. stop.0) _ c.args.place (places_rise _ c.requires) in
-    let point = IsPartitionPoint-from_clause (λ stop. leb stop.0 c.args.place) _ _ c.partition_point.ensures.partitioned parted (λ a r q k. search rules) in
+    let parted = IsPartitionedBy-leb (λ stop. stop.0) _ c.args.offset (offsets_rise _ c.requires) in
+    let point = IsPartitionPoint-from_clause (λ stop. leb stop.0 c.args.offset) _ _ c.partition_point.ensures.partitioned parted (λ a r q k. search rules) in
     λ k d low below. leb-false _ _ (point.1 k d low below)

@@ -9,5 +9,5 @@ returns-clause-quiet c =
     let next = c.quiet_passed-next.result in
     let inside : next < length quiet = omega arith in
     let ahead = c.quiet_passed-next.ensures.ahead next (0, 0) (omega arith) inside in
-    passes_none quiet c.args.place next c.upto.result c.requires c.quiet_passed-next.ensures.passed
+    passes_none quiet c.args.offset next c.upto.result c.requires c.quiet_passed-next.ensures.passed
     (λ d. omega (arith, ahead, ap (λ (stop : ℕ × ℕ). stop.0) (get_or_default quiet next d (0, 0) inside)))

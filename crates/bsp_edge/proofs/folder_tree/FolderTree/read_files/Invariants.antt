@@ -1,6 +1,6 @@
 use Rattle.std.proofs.Common.{◌≡◌, take}
 use Rattle.std.specs.List.{All}
-use Rattle.bsp_edge.specs.Documents.{IsReadable}
+use Rattle.ob_text.specs.Held.{IsReadable}
 use Rattle.bsp_edge.specs.Handing.{paths_of}
 use Rattle.bsp_edge.proofs.folder_tree.FolderTree.read_files.Given as goal
 

@@ -11,7 +11,7 @@ returns-clause-left c =
     rw (← c.self.view_is) (record {
       some = omega arith;
       within = omega arith;
-      taken = ap Some (piece_taken c.self.inside.bytes.items _ c.self.inside.place c.upto_quiet-count.result copied);
+      taken = ap Some (piece_taken c.self.inside.bytes.items _ c.self.inside.offset c.upto_quiet-count.result copied);
     })
 
 pub returns-clause-answer : goal.returns-clause-answer
