@@ -3,7 +3,7 @@ use Rattle.std.proofs.Common.{◌≡◌, ◌++◌, ◌<◌, ℕ, List, [], ◌�
 use Rattle.std.proofs.lemmas.List.{take-append-drop}
 use Rattle.bsp_edge.specs.Handing.{Hands}
 use Rattle.bsp_edge.specs.Streams.{Gives}
-use Rattle.bsp_edge.specs.Writing.{GivesFront as TookFront}
+use Rattle.bsp_edge.specs.Writing.{TookFront}
 use Rattle.bsp_edge.proofs.HandLaws.{hands_nothing}
 use Rattle.bsp_edge.proofs.StreamLaws.{gives_append, gives_nothing}
 use Rattle.rpc_peer.specs.Said.{Said}
