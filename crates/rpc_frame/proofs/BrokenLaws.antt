@@ -17,7 +17,7 @@ use Rattle.rpc_frame.specs.declared.reading.Step.TheVariants.{Inside, Whole}
 use Rattle.rpc_frame.specs.Frames.{IsSound, IsBroken}
 use Rattle.rpc_frame.specs.Damages.{DamageAt}
 use Rattle.rpc_frame.specs.Heads.{spot_next}
-use Rattle.rpc_frame.specs.Partial.{IsInHeader, Reads, Makes, Scanned, Stepped}
+use Rattle.rpc_frame.specs.Partial.{IsInHeader, IsPartRead, Makes, Scanned, Stepped}
 use Rattle.rpc_frame.proofs.DamageLaws.{damage_broken}
 use Rattle.rpc_frame.proofs.PartLaws.{header_goes_on, header_opens, header_whole, header_breaks, bad_more, content_goes_on, content_whole}
 use Rattle.rpc_frame.proofs.ScanLaws.{marked_more, scanned_nil, scanned_sound, scanned_damage, stepped_inside, stepped_whole}
@@ -38,7 +38,7 @@ header_step offset came head part b r inside (Bad kind) e = record {
   makes = header_breaks offset (offset + came) came head kind part b (omega (arith, r.counted)) r (inl (inside, e));
 }
 
-byte_step : (offset : ℕ) (reading : Reading) (part : List ℕ) (b : ℕ) → Reads offset reading part → Stepping offset (part ++ b ∷ [])
+byte_step : (offset : ℕ) (reading : Reading) (part : List ℕ) (b : ℕ) → IsPartRead offset reading part → Stepping offset (part ++ b ∷ [])
 byte_step offset (Header came head) part b r = elim (cases_lt came header_limit) [
   | inl inside ↦ header_step offset came head part b r inside (spot_next head.spot head.size b) refl
   | inr full ↦ record {

@@ -4,11 +4,16 @@ use Rattle.std.proofs.lemmas.List.{append-nil, length-replicate, nil_from_length
 use Rattle.rpc_frame.specs.Limits.{header_limit}
 use Rattle.rpc_frame.specs.declared.head.Head.{Head}
 use Rattle.rpc_frame.specs.declared.head.Next.TheVariants.{On, Closed}
-use Rattle.rpc_frame.specs.Frames.{NeverBegins, IsHeader, IsFrame, BeginsFrame, BeginsWith, FramesTo, HasNoFrame, Frames, IsBorder, IsSound, IsBroken}
+use Rattle.rpc_frame.specs.Frames.{IsHeader, IsFrame, BeginsFrame, BeginsWith, FramesTo, HasNoFrame, Frames, IsBorder, IsSound, IsBroken}
 use Rattle.rpc_frame.specs.Heads.{reading}
 use Rattle.rpc_frame.proofs.StandLaws.{closed_header}
 use Rattle.rpc_frame.proofs.EndLaws.{reads_on_header}
 use Rattle.rpc_frame.proofs.HeaderLaws.{frame_some, one_frame, one_header, stands, GoesOver, fronts}
+
+-- no frame stands in front of the bytes, and they begin none, however they go on
+pub record NeverBegins (bytes : List ℕ) : Type 0 where
+  pub none : HasNoFrame bytes
+  pub never : BeginsFrame bytes → ⊥
 
 -- a frame in front of anything
 pub frame_begins : (frame body after : List ℕ) → IsFrame frame body → BeginsWith (frame ++ after) body after

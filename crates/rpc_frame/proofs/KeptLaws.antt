@@ -8,7 +8,7 @@ use Rattle.rpc_frame.specs.Frames.{BeginsWith, HasNoFrame}
 use Rattle.rpc_frame.specs.declared.damage.Damage.{Damage}
 use Rattle.rpc_frame.specs.declared.stream.Decoder.TheInside.{Inside}
 use Rattle.rpc_frame.specs.Damages.{HasDamage}
-use Rattle.rpc_frame.specs.Kept.{IsKept}
+use Rattle.rpc_frame.specs.Kept.{KnowsBytes}
 use Rattle.rpc_frame.specs.Partial.{Scanned}
 use Rattle.rpc_frame.proofs.DamageLaws.{has_damage_more}
 use Rattle.rpc_frame.proofs.ScanLaws.{FirstFrame, scanned_none}
@@ -26,7 +26,7 @@ pub record Fed (d : Inside) (reading : Reading) (marks : List Mark) (bytes piece
   pub waiting : drop d.start d.bytes.items ++ piece ≡ drop d.start bytes
   pub scanned : Scanned d.given_end reading marks (drop d.start bytes)
 
-pub fed : (d : Inside) (reading : Reading) (marks : List Mark) (bytes piece : List ℕ) (begun : ℕ) → IsKept d → bytes ≡ d.bytes.items ++ piece → d.given_end + (length d.bytes.items - d.start) ≡ begun
+pub fed : (d : Inside) (reading : Reading) (marks : List Mark) (bytes piece : List ℕ) (begun : ℕ) → KnowsBytes d → bytes ≡ d.bytes.items ++ piece → d.given_end + (length d.bytes.items - d.start) ≡ begun
     → ((from : ℕ) (waiting : List ℕ) → from + length waiting ≡ begun → Scanned from d.reading d.marks.items waiting → Scanned from reading marks (waiting ++ piece))
     → Fed d reading marks bytes piece
 fed d reading marks bytes piece begun kept e at scans =

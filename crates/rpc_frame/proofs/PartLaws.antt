@@ -7,7 +7,7 @@ use Rattle.rpc_frame.specs.declared.damage.DamageKind.{DamageKind}
 use Rattle.rpc_frame.specs.declared.damage.DamageKind.TheVariants.{Truncated}
 use Rattle.rpc_frame.specs.declared.head.Head.{Head}
 use Rattle.rpc_frame.specs.declared.head.Next.TheVariants.{On, Closed, Bad}
-use Rattle.rpc_frame.specs.Frames.{IsHeader, NeverBegins}
+use Rattle.rpc_frame.specs.Frames.{IsHeader}
 use Rattle.rpc_frame.specs.Heads.{spot_next, start, reading}
 use Rattle.rpc_frame.specs.Damages.{BreaksHeader, DamageAt}
 use Rattle.rpc_frame.specs.Partial.{IsInHeader, IsInContent, Breaks, IsBad, IsMarked}
@@ -15,7 +15,7 @@ use Rattle.rpc_frame.proofs.RunLaws.{run_on}
 use Rattle.rpc_frame.proofs.Stands.{Leads, BreaksAt}
 use Rattle.rpc_frame.proofs.StandLaws.{reading_stands, stands_leads, closed_header}
 use Rattle.rpc_frame.proofs.HeaderLaws.{GoesOver, fronts, stands, on_no_header, bad_no_header}
-use Rattle.rpc_frame.proofs.FrameLaws.{zeros, length-zeros, IsCut, on_cut, cut_no_frame, begins_sound, never_broken, never_more}
+use Rattle.rpc_frame.proofs.FrameLaws.{NeverBegins, zeros, length-zeros, IsCut, on_cut, cut_no_frame, begins_sound, never_broken, never_more}
 
 -- One byte more of a header part.
 pub header_goes_on : (came : ℕ) (head next : Head) (p : List ℕ) (b : ℕ) → IsInHeader came head p → came < header_limit → spot_next head.spot head.size b ≡ On next → IsInHeader (came + 1) next (p ++ b ∷ [])

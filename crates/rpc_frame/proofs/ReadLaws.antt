@@ -7,7 +7,7 @@ use Rattle.std.specs.Char.{is_ascii_digit, to_ascii_lowercase}
 use Rattle.rpc_frame.specs.Limits.{content_limit}
 use Rattle.rpc_frame.specs.declared.head.Spot.TheVariants.{Field, Name, Value, Digits, Behind}
 use Rattle.rpc_frame.specs.declared.head.Next.TheVariants.{Closed}
-use Rattle.rpc_frame.specs.Frames.{name_byte, value_byte, blank_byte, EachPasses, HeaderLine, line_text, IsLine, AreLines, length_name, IsLengthName, AreDigits, number_behind, IsLength, NoLength as HaveNoLength, OneLength, IsHeader}
+use Rattle.rpc_frame.specs.Frames.{name_byte, value_byte, blank_byte, EachPasses, HeaderLine, line_text, IsLine, AreLines, length_name, IsLengthName, AreDigits, number_behind, IsLength, LacksLength, OneLength, IsHeader}
 use Rattle.rpc_frame.specs.Damages.{Lengths}
 use Rattle.rpc_frame.specs.Heads.{on, length_next, goes_on, field_next, name_next, value_next, figure_next, digits_next, behind_next, end_next, closing_next, run, start, reading}
 use Rattle.rpc_frame.proofs.Bytes.{low, name_no_colon, name_no_return, value_no_return, blank_no_return, blank_no_digit, is_digit, passes_not}
@@ -187,7 +187,7 @@ length_line l size is named v =
     ∙ after_run v.after (length v.digits) (number_behind 0 v.digits) None v.sized.one v.blank_after
     ∙ ap (λ n. on (Some n) (Field 0)) number
 
-none_lines : (ls : List HeaderLine) (size : Option ℕ) → AreLines ls → HaveNoLength ls → run (on size (Field 0)) (flat_map line_text ls) ≡ on size (Field 0)
+none_lines : (ls : List HeaderLine) (size : Option ℕ) → AreLines ls → LacksLength ls → run (on size (Field 0)) (flat_map line_text ls) ≡ on size (Field 0)
 none_lines [] size each h = refl
 none_lines (l ∷ ls) size each h =
     run_on (on size (Field 0)) (on size (Field 0)) (line_text l) (flat_map line_text ls) (other_line l size each.0 h.0) ∙ none_lines ls size each.1 h.1

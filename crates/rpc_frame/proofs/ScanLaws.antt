@@ -12,25 +12,33 @@ use Rattle.rpc_frame.specs.declared.reading.Step.{Step}
 use Rattle.rpc_frame.specs.declared.reading.Step.TheVariants.{Inside, Whole}
 use Rattle.rpc_frame.specs.Frames.{BeginsWith, FramesTo, HasNoFrame, IsBorder, IsSound, IsBroken}
 use Rattle.rpc_frame.specs.Damages.{DamageAt, HasDamage}
-use Rattle.rpc_frame.specs.Partial.{IsInHeader, Reads, IsMarked, Makes, Marked, Scanned, Stepped, GoesOn, ReadsOn}
+use Rattle.rpc_frame.specs.Partial.{IsInHeader, IsPartRead, IsMarked, Makes, Marked, Scanned, Stepped, GoesOn}
 use Rattle.rpc_frame.proofs.StandLaws.{closed_header}
 use Rattle.rpc_frame.proofs.HeaderLaws.{header_some, header_limit}
 use Rattle.rpc_frame.proofs.FrameLaws.{cut_sound, cut_no_frame, never_broken, never_no_frame, sound_front, broken_front, rest_no_border, frames_apart}
 use Rattle.rpc_frame.proofs.PartLaws.{header_cut, content_cut, bad_never, bad_damage}
 use Rattle.rpc_frame.proofs.DamageLaws.{damage_behind}
 
-pub reads_sound : (offset : ℕ) (reading : Reading) (p : List ℕ) → ((damage : Damage) → reading ≡ Broken damage → ⊥) → Reads offset reading p → IsSound p
+-- From the first reading and its marks, the bytes of the piece before the rest led to the next ones.
+-- The stream has so many bytes before the piece, and before its rest.
+pub record ReadsOn (first next : Reading) (before after : List Mark) (piece rest : List ℕ) (begun place : ℕ) : Type 0 where
+  pub seen : List ℕ
+  pub cut : piece ≡ seen ++ rest
+  pub place_is : place ≡ begun + length seen
+  pub scanned : (from : ℕ) (bytes : List ℕ) → from + length bytes ≡ begun → Scanned from first before bytes → Scanned from next after (bytes ++ seen)
+
+pub reads_sound : (offset : ℕ) (reading : Reading) (p : List ℕ) → ((damage : Damage) → reading ≡ Broken damage → ⊥) → IsPartRead offset reading p → IsSound p
 reads_sound offset (Header came head) p going r = cut_sound p (header_cut came head p r)
 reads_sound offset (Content header size missing) p going r = cut_sound p (content_cut header size missing p r)
 reads_sound offset (Broken damage) p going r = absurd (going damage refl)
 
-pub reads_no_frame : (offset : ℕ) (reading : Reading) (p : List ℕ) → Reads offset reading p → HasNoFrame p
+pub reads_no_frame : (offset : ℕ) (reading : Reading) (p : List ℕ) → IsPartRead offset reading p → HasNoFrame p
 reads_no_frame offset (Header came head) p r = cut_no_frame p (header_cut came head p r)
 reads_no_frame offset (Content header size missing) p r = cut_no_frame p (content_cut header size missing p r)
 reads_no_frame offset (Broken damage) p r = never_no_frame p (bad_never offset damage p r)
 
 -- Only at the start has nothing come.
-pub reads_some : (offset : ℕ) (reading : Reading) (p : List ℕ) → ((head : Head) → reading ≡ Header 0 head → ⊥) → Reads offset reading p → 0 < length p
+pub reads_some : (offset : ℕ) (reading : Reading) (p : List ℕ) → ((head : Head) → reading ≡ Header 0 head → ⊥) → IsPartRead offset reading p → 0 < length p
 reads_some offset (Header zero head) p other r = absurd (other head refl)
 reads_some offset (Header (suc came) head) p other r = omega (arith, r.counted)
 reads_some offset (Content header size missing) p other r = omega (arith, header_some r.front size (closed_header r.front size r.closed), ap length r.whole, length-append r.front r.content)
@@ -111,7 +119,7 @@ pub scanned_nil : Scanned 0 (Header 0 (record { size = None; spot = Field 0 })) 
 scanned_nil = record { part = []; offset = 0; counted = refl; marked = refl; reads = reads_start }
 
 -- A step over the next bytes.
-pub scanned_step : (from : ℕ) (reading : Reading) (step : Step) (ms : List Mark) (b t : List ℕ) (place : ℕ) → from + length b ≡ place → ((offset : ℕ) (p : List ℕ) → offset + length p ≡ place → Reads offset reading p → Makes offset step (p ++ t)) → Scanned from reading ms b → Stepped from step ms (b ++ t)
+pub scanned_step : (from : ℕ) (reading : Reading) (step : Step) (ms : List Mark) (b t : List ℕ) (place : ℕ) → from + length b ≡ place → ((offset : ℕ) (p : List ℕ) → offset + length p ≡ place → IsPartRead offset reading p → Makes offset step (p ++ t)) → Scanned from reading ms b → Stepped from step ms (b ++ t)
 scanned_step from reading step ms b t place at makes s = record {
   part = s.part ++ t;
   offset = s.offset;
@@ -186,7 +194,7 @@ reads_on_start reading ms piece begun = record {
 }
 
 pub reads_on_step : (first now next : Reading) (before ms after : List Mark) (piece rest : List ℕ) (begun place : ℕ) (step : Step) (n : ℕ) → ReadsOn first now before ms piece rest begun place → n ≤ length rest
-    → ((offset : ℕ) (p : List ℕ) → offset + length p ≡ place → Reads offset now p → Makes offset step (p ++ take n rest)) → ((from : ℕ) (bytes : List ℕ) → Stepped from step ms bytes → Scanned from next after bytes)
+    → ((offset : ℕ) (p : List ℕ) → offset + length p ≡ place → IsPartRead offset now p → Makes offset step (p ++ take n rest)) → ((from : ℕ) (bytes : List ℕ) → Stepped from step ms bytes → Scanned from next after bytes)
     → ReadsOn first next before after piece (drop n rest) begun (place + n)
 reads_on_step first now next before ms after piece rest begun place step n r inside makes settles = record {
   seen = r.seen ++ take n rest;

@@ -12,7 +12,7 @@ use Rattle.rpc_frame.specs.declared.head.Spot.TheVariants.{Field, Name, Value, D
 use Rattle.rpc_frame.specs.declared.head.Head.{Head}
 use Rattle.rpc_frame.specs.declared.head.Next.{Next}
 use Rattle.rpc_frame.specs.declared.head.Next.TheVariants.{On, Closed, Bad}
-use Rattle.rpc_frame.specs.Frames.{name_byte, value_byte, blank_byte, EachPasses, HeaderLine, line_text, IsLine, AreLines, length_name, IsLengthName, IsLength, IsSize, NoLength as HaveNoLength, OneLength, IsHeader, number_behind}
+use Rattle.rpc_frame.specs.Frames.{name_byte, value_byte, blank_byte, EachPasses, HeaderLine, line_text, IsLine, AreLines, length_name, IsLengthName, IsLength, IsSize, LacksLength, OneLength, IsHeader, number_behind}
 use Rattle.rpc_frame.specs.Damages.{Lengths, InDigits, BehindDigits, IsOfKind}
 use Rattle.rpc_frame.specs.Heads.{on, lines_next, length_next, goes_on, field_next, name_next, value_next, other_next, figure_next, digits_next, behind_next, end_next, closing_next, spot_next, run, start, reading}
 use Rattle.rpc_frame.proofs.Bytes.{low, digit_is, passes_push, passes_append, blanks_values, digits_values, AreDigits-push}
@@ -406,7 +406,7 @@ behind_leads number size bytes line b l none r =
     (λ passes. (none, inr (record { behind = h; other = (passes, solid) })))))
 
 -- The ends of lines.
-none_push : (ls : List HeaderLine) (t : HeaderLine) → HaveNoLength ls → (IsLengthName t.name → ⊥) → HaveNoLength (ls ++ t ∷ [])
+none_push : (ls : List HeaderLine) (t : HeaderLine) → LacksLength ls → (IsLengthName t.name → ⊥) → LacksLength (ls ++ t ∷ [])
 none_push [] t h other = (other, tt)
 none_push (l ∷ ls) t h other = (h.0, none_push ls t h.1 other)
 
@@ -417,7 +417,7 @@ one_push (l ∷ ls) t n h other = elim h [
   | inr p ↦ inr (p.0, one_push ls t n p.1 other)
 ]
 
-first_push : (ls : List HeaderLine) (t : HeaderLine) (n : ℕ) → HaveNoLength ls → IsLengthName t.name → IsLength t.value n → OneLength (ls ++ t ∷ []) n
+first_push : (ls : List HeaderLine) (t : HeaderLine) (n : ℕ) → LacksLength ls → IsLengthName t.name → IsLength t.value n → OneLength (ls ++ t ∷ []) n
 first_push [] t n h named says = inl (named, says, tt)
 first_push (l ∷ ls) t n h named says = inr (h.0, first_push ls t n h.1 named says)
 

@@ -8,12 +8,11 @@ use Rattle.rpc_frame.specs.declared.damage.DamageKind.TheVariants.{BadLine, TwoL
 use Rattle.rpc_frame.specs.declared.damage.Damage.{Damage}
 use Rattle.rpc_frame.specs.declared.damage.FeedFault.{FeedFault}
 use Rattle.rpc_frame.specs.declared.damage.FeedFault.TheVariants.{Damaged, NoMemory}
-use Rattle.rpc_frame.specs.Frames.{name_byte, value_byte, blank_byte, EachPasses, HeaderLine, line_text, IsLine, AreLines, IsLengthName, AreDigits, number_behind, OneLength, Frames, IsSound, IsBroken, Waiting}
-use Rattle.rpc_frame.specs.Frames.{NoLength as HaveNoLength}
+use Rattle.rpc_frame.specs.Frames.{name_byte, value_byte, blank_byte, EachPasses, HeaderLine, line_text, IsLine, AreLines, IsLengthName, AreDigits, number_behind, LacksLength, OneLength, Frames, IsSound, IsBroken, Waiting}
 
 -- the size that Content-Length says in these lines, where it stands in them
 abbrev pub Lengths : List HeaderLine → Option ℕ → Type 0
-Lengths lines None = HaveNoLength lines
+Lengths lines None = LacksLength lines
 Lengths lines (Some size) = OneLength lines size
 
 -- a line up to the middle of its name: what can't continue the name is no byte of a name, no colon

@@ -75,14 +75,14 @@ pub record IsLength (value : List ℕ) (size : ℕ) : Type 0 where
   pub whole : value ≡ before ++ (digits ++ after)
 
 -- no line is named Content-Length
-abbrev pub NoLength : List HeaderLine → Type 0
-NoLength [] = Unit {0}
-NoLength (l ∷ ls) = (IsLengthName l.name → ⊥) × NoLength ls
+abbrev pub LacksLength : List HeaderLine → Type 0
+LacksLength [] = Unit {0}
+LacksLength (l ∷ ls) = (IsLengthName l.name → ⊥) × LacksLength ls
 
 -- exactly one line is named Content-Length, and it says this size
 abbrev pub OneLength : List HeaderLine → ℕ → Type 0
 OneLength [] size = ⊥
-OneLength (l ∷ ls) size = (IsLengthName l.name × IsLength l.value size × NoLength ls) ⊎ ((IsLengthName l.name → ⊥) × OneLength ls size)
+OneLength (l ∷ ls) size = (IsLengthName l.name × IsLength l.value size × LacksLength ls) ⊎ ((IsLengthName l.name → ⊥) × OneLength ls size)
 
 -- a header part, of whatever length, that says this size: header lines, and an empty line that closes it
 pub record IsHeader (header : List ℕ) (size : ℕ) : Type 0 where
@@ -128,11 +128,6 @@ pub record BeginsFrame (bytes : List ℕ) : Type 0 where
   pub «is» : IsHeader header (length body)
   pub limit : (length bytes ≤ header_limit) ⊎ (length header ≤ header_limit)
   pub whole : bytes ++ more ≡ header ++ body
-
--- no frame stands in front of the bytes, and they begin none, however they go on
-pub record NeverBegins (bytes : List ℕ) : Type 0 where
-  pub none : HasNoFrame bytes
-  pub never : BeginsFrame bytes → ⊥
 
 -- the bytes are these frames, and a rest that no frame begins
 pub record Frames (bytes : List ℕ) (bodies : List (List ℕ)) (rest : List ℕ) : Type 0 where

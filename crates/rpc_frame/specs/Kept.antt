@@ -2,10 +2,10 @@
 use Rattle.std.specs.Prelude.{◌+◌, ◌≤◌, length, drop}
 use Rattle.rpc_frame.specs.Limits.{stream_limit}
 use Rattle.rpc_frame.specs.declared.stream.Decoder.TheInside.{Inside}
-use Rattle.rpc_frame.specs.Partial.{IsWithin, Scanned}
+use Rattle.rpc_frame.specs.Partial.{IsFitReading, Scanned}
 
-pub record IsKept (d : Inside) : Type 0 where
+pub record KnowsBytes (d : Inside) : Type 0 where
   pub start : d.start ≤ length d.bytes.items
   pub bound : d.given_end + length (drop d.start d.bytes.items) ≤ stream_limit
-  pub within : IsWithin d.reading
+  pub within : IsFitReading d.reading
   pub scanned : Scanned d.given_end d.reading d.marks.items (drop d.start d.bytes.items)

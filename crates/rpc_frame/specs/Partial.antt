@@ -49,16 +49,16 @@ pub record IsBad (offset : ℕ) (damage : Damage) (bytes : List ℕ) : Type 0 wh
   pub whole : bytes ≡ front ++ (byte ∷ after)
 
 -- the bytes, at this place of the stream, are a part of a frame, as the reading says
-abbrev pub Reads : ℕ → Reading → List ℕ → Type 0
-Reads offset (Header came head) bytes = IsInHeader came head bytes
-Reads offset (Content header size missing) bytes = IsInContent header size missing bytes
-Reads offset (Broken damage) bytes = IsBad offset damage bytes
+abbrev pub IsPartRead : ℕ → Reading → List ℕ → Type 0
+IsPartRead offset (Header came head) bytes = IsInHeader came head bytes
+IsPartRead offset (Content header size missing) bytes = IsInContent header size missing bytes
+IsPartRead offset (Broken damage) bytes = IsBad offset damage bytes
 
 -- the numbers of a reading are within their limits
-abbrev pub IsWithin : Reading → Type 0
-IsWithin (Header came head) = (came ≤ header_limit) × IsFit head.spot
-IsWithin (Content header size missing) = (0 < missing) × (header ≤ header_limit)
-IsWithin (Broken damage) = Unit {0}
+abbrev pub IsFitReading : Reading → Type 0
+IsFitReading (Header came head) = (came ≤ header_limit) × IsFit head.spot
+IsFitReading (Content header size missing) = (0 < missing) × (header ≤ header_limit)
+IsFitReading (Broken damage) = Unit {0}
 
 -- the mark says where the content of the frame begins and ends
 pub record IsMarked (mark : Mark) (frame : List ℕ) : Type 0 where
@@ -71,12 +71,12 @@ pub record IsMarked (mark : Mark) (frame : List ℕ) : Type 0 where
 
 -- the bytes are a part of a frame, or the whole of one
 abbrev pub Makes : ℕ → Step → List ℕ → Type 0
-Makes offset (Inside reading) bytes = Reads offset reading bytes
+Makes offset (Inside reading) bytes = IsPartRead offset reading bytes
 Makes offset (Whole mark) bytes = IsMarked mark bytes
 
-abbrev pub IsWithinStep : Step → Type 0
-IsWithinStep (Inside reading) = IsWithin reading
-IsWithinStep (Whole mark) = Unit {0}
+abbrev pub IsFitStep : Step → Type 0
+IsFitStep (Inside reading) = IsFitReading reading
+IsFitStep (Whole mark) = Unit {0}
 
 -- the bytes are a frame with this mark, and then such bytes
 pub record MarkThen (bytes : List ℕ) (mark : Mark) (Such : List ℕ → Type 0) : Type 0 where
@@ -97,7 +97,7 @@ pub record Scanned (from : ℕ) (reading : Reading) (marks : List Mark) (bytes :
   pub offset : ℕ
   pub counted : offset + length part ≡ from + length bytes
   pub marked : Marked bytes marks part
-  pub reads : Reads offset reading part
+  pub reads : IsPartRead offset reading part
 
 -- the same, where the part may have come whole
 pub record Stepped (from : ℕ) (step : Step) (marks : List Mark) (bytes : List ℕ) : Type 0 where
@@ -111,11 +111,3 @@ pub record Stepped (from : ℕ) (step : Step) (marks : List Mark) (bytes : List 
 pub record GoesOn (first second : List Mark) : Type 0 where
   pub more : List Mark
   pub whole : second ≡ first ++ more
-
--- From the first reading and its marks, the bytes of the piece before the rest led to the next ones.
--- The stream has so many bytes before the piece, and before its rest.
-pub record ReadsOn (first next : Reading) (before after : List Mark) (piece rest : List ℕ) (begun place : ℕ) : Type 0 where
-  pub seen : List ℕ
-  pub cut : piece ≡ seen ++ rest
-  pub place_is : place ≡ begun + length seen
-  pub scanned : (from : ℕ) (bytes : List ℕ) → from + length bytes ≡ begun → Scanned from first before bytes → Scanned from next after (bytes ++ seen)

@@ -1,5 +1,5 @@
 ghost use Rattle.std.specs.Prelude.{◌≡◌, ℕ, ◌+◌, ◌<◌, ◌≤◌, ◌↔◌, List, [], ◌∷◌, ◌++◌, length, take, IsTrue, IsSome, IfSome, IfNone};
-ghost use Rattle.rpc_frame.specs.Partial.{IsWithin, IsWithinStep, Makes, Reads};
+ghost use Rattle.rpc_frame.specs.Partial.{IsFitReading, IsFitStep, IsPartRead, Makes};
 ghost use Rattle.rpc_frame.specs.Spots.{IsFit};
 ghost use Rattle.rpc_frame.specs.Limits.{header_limit};
 
@@ -73,12 +73,12 @@ impl Reading {
     /// a header part, or all of the content that have come.
     pub fn step(self, place: u64, bytes: &[u8]) -> (Step, usize)
         requires some { 0 < length bytes.now }
-        requires within { IsWithin self }
+        requires within { IsFitReading self }
         ensures progress { 0 < result.1 }
         ensures inside { result.1 ≤ length bytes.now }
-        ensures within { IsWithinStep result.0 }
+        ensures within { IsFitStep result.0 }
         ensures makes { (offset : ℕ) (part : List ℕ) → offset + length part ≡ place
-            → Reads offset self part → Makes offset result.0 (part ++ take result.1 bytes.now) }
+            → IsPartRead offset self part → Makes offset result.0 (part ++ take result.1 bytes.now) }
     {
         match self {
             Reading::Header { came, head } => (after_header(came, head, place, bytes[0]), 1),
@@ -95,9 +95,9 @@ impl Reading {
 fn after_header(came: usize, head: Head, place: u64, byte: u8) -> Step
     requires limit { came ≤ header_limit }
     requires fit { IsFit head.spot }
-    ensures within { IsWithinStep result }
+    ensures within { IsFitStep result }
     ensures makes { (offset : ℕ) (part : List ℕ) → offset + length part ≡ place
-        → Reads offset (Reading.Header came head) part → Makes offset result (part ++ byte ∷ []) }
+        → IsPartRead offset (Reading.Header came head) part → Makes offset result (part ++ byte ∷ []) }
 {
     let full = came == HEADER_LIMIT;
     if full {
@@ -122,7 +122,7 @@ fn broken(place: u64, kind: DamageKind) -> Step
 /// The start of a content behind a header part of so many bytes.
 fn opened(header: usize, size: usize) -> Step
     requires { header ≤ header_limit }
-    ensures within { IsWithinStep result }
+    ensures within { IsFitStep result }
     ensures empty { size ≡ 0 → result ≡ Step.Whole (record { header = header; content = 0 }) }
     ensures some { 0 < size → result ≡ Step.Inside (Reading.Content header size size) }
 {
@@ -142,8 +142,8 @@ fn after_content(header: usize, size: usize, missing: usize, ready: usize) -> (S
     requires limit { header ≤ header_limit }
     ensures progress { 0 < result.1 }
     ensures inside { result.1 ≤ ready }
-    ensures within { IsWithinStep result.0 }
-    ensures makes { (offset : ℕ) (part taken : List ℕ) → Reads offset (Reading.Content header size missing) part
+    ensures within { IsFitStep result.0 }
+    ensures makes { (offset : ℕ) (part taken : List ℕ) → IsPartRead offset (Reading.Content header size missing) part
         → length taken ≡ result.1 → Makes offset result.0 (part ++ taken) }
 {
     if ready < missing {

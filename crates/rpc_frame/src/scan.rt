@@ -1,5 +1,5 @@
 ghost use Rattle.std.specs.Prelude.{◌≡◌, ℕ, ◌+◌, ◌<◌, ◌≤◌, List, [], ◌∷◌, ◌++◌, length, take, IfOk, OnOk, OnErr};
-ghost use Rattle.rpc_frame.specs.Partial.{GoesOn, IsWithin, IsWithinStep, Scanned, Stepped};
+ghost use Rattle.rpc_frame.specs.Partial.{GoesOn, IsFitReading, IsFitStep, Scanned, Stepped};
 ghost use Rattle.rpc_frame.specs.Limits.{stream_limit};
 
 use crate::reading::{Mark, Reading, Step};
@@ -16,10 +16,10 @@ pub fn append(
     begun: u64,
     piece: &[u8],
 ) -> Result<Reading, NoMemory>
-    requires within { IsWithin reading }
+    requires within { IsFitReading reading }
     requires bound { begun + length piece.now ≤ stream_limit }
     ensures bytes { OnOk result (bytes.new.items ≡ bytes.old.items ++ piece.now) }
-    ensures within { IfOk result IsWithin }
+    ensures within { IfOk result IsFitReading }
     ensures scanned { IfOk result (λ r. (from : ℕ) (waiting : List ℕ) → from + length waiting ≡ begun
         → Scanned from reading marks.old.items waiting
         → Scanned from r marks.new.items (waiting ++ piece.now)) }
@@ -46,9 +46,9 @@ fn scan(
     begun: u64,
     piece: &[u8],
 ) -> Result<Reading, NoMemory>
-    requires within { IsWithin reading }
+    requires within { IsFitReading reading }
     requires bound { begun + length piece.now ≤ stream_limit }
-    ensures within { IfOk result IsWithin }
+    ensures within { IfOk result IsFitReading }
     ensures scanned { IfOk result (λ r. (from : ℕ) (waiting : List ℕ) → from + length waiting ≡ begun
         → Scanned from reading marks.old.items waiting
         → Scanned from r marks.new.items (waiting ++ piece.now)) }
@@ -67,8 +67,8 @@ fn scan(
 
 /// Marks a frame that has come whole.
 fn settle(step: Step, marks: &mut VecDeque<Mark>) -> Result<Reading, NoMemory>
-    requires { IsWithinStep step }
-    ensures within { IfOk result IsWithin }
+    requires { IsFitStep step }
+    ensures within { IfOk result IsFitReading }
     ensures scanned { IfOk result (λ r. (from : ℕ) (waiting : List ℕ)
         → Stepped from step marks.old.items waiting → Scanned from r marks.new.items waiting) }
     ensures goes_on { GoesOn marks.old.items marks.new.items }

@@ -34,11 +34,11 @@ impl Model for Decoder {
 
     ghost Value = { Waiting };
 
-    ghost use Rattle.rpc_frame.specs.Kept.{IsKept};
+    ghost use Rattle.rpc_frame.specs.Kept.{KnowsBytes};
 
     ghost view = { λ d. record { bytes = drop d.start d.bytes.items; given_end = d.given_end } };
 
-    ghost invariant = { IsKept };
+    ghost invariant = { KnowsBytes };
 }
 
 impl Decoder {

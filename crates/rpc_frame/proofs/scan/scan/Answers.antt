@@ -1,6 +1,5 @@
 use Rattle.std.proofs.Common.{ℕ, ◌+◌, List, sym, subst, arith}
-use Rattle.rpc_frame.specs.Partial.{ReadsOn}
-use Rattle.rpc_frame.proofs.ScanLaws.{reads_on_step, goes_on_trans}
+use Rattle.rpc_frame.proofs.ScanLaws.{ReadsOn, reads_on_step, goes_on_trans}
 use Rattle.rpc_frame.proofs.scan.scan.Goals as goal
 
 pub pieces-preserved : goal.pieces-preserved
