@@ -11,7 +11,7 @@ use Rattle.serde_json.specs.Read.{read}
 use Rattle.rpc_peer.specs.declared.message.Id.{Id}
 use Rattle.rpc_peer.specs.declared.message.Id.TheVariants.{Number, Text}
 use Rattle.rpc_peer.specs.Said.{Said, request, notification, result, failure, said_data, id_data, answered_data, id_limit, IsId, IsAnyId}
-use Rattle.rpc_peer.specs.Meaning.{meaning, meaning_of, message_of, id_of, answered_id, failure_with, message_or}
+use Rattle.rpc_peer.specs.Meaning.{meaning, meaning_of, message_in, id_in, answered_id, failure_with, message_or}
 use Rattle.rpc_peer.specs.Returning.{Returns, HasCode, IsParams}
 use Rattle.rpc_peer.proofs.Bodies.{body_value-of_text}
 
@@ -22,7 +22,7 @@ number_again (pos n) fits =
     ap (λ b. cond b (Some (pos n)) None) test
 number_again (negsuc n) fits = refl
 
-id_again : (id : Id) → IsId id → id_of (id_data id) ≡ Some id
+id_again : (id : Id) → IsId id → id_in (id_data id) ≡ Some id
 id_again (Number n) h = ap (option_map Number) (number_again n h)
 id_again (Text t) h =
     let short : length t ≤ id_limit = h.1 in
@@ -34,7 +34,7 @@ answered_again None h = refl
 answered_again (Some (Number n)) h = ap (option_map Some) (id_again (Number n) h)
 answered_again (Some (Text t)) h = ap (option_map Some) (id_again (Text t) h)
 
-request_again : (id : Id) (method : List ℕ) (params : Option Data) → IsId id → IsParams params → message_of (said_data (request id method params)) ≡ Some (request id method params)
+request_again : (id : Id) (method : List ℕ) (params : Option Data) → IsId id → IsParams params → message_in (said_data (request id method params)) ≡ Some (request id method params)
 request_again id method None h k = ap (option_map (λ i. request i method None)) (id_again id h)
 request_again id method (Some null) h k = absurd k
 request_again id method (Some (boolean b)) h k = absurd k
@@ -43,7 +43,7 @@ request_again id method (Some (string t)) h k = absurd k
 request_again id method (Some (array items)) h k = ap (option_map (λ i. request i method (Some (array items)))) (id_again id h)
 request_again id method (Some (object ms)) h k = ap (option_map (λ i. request i method (Some (object ms)))) (id_again id h)
 
-notification_again : (method : List ℕ) (params : Option Data) → IsParams params → message_of (said_data (notification method params)) ≡ Some (notification method params)
+notification_again : (method : List ℕ) (params : Option Data) → IsParams params → message_in (said_data (notification method params)) ≡ Some (notification method params)
 notification_again method None k = refl
 notification_again method (Some null) k = absurd k
 notification_again method (Some (boolean b)) k = absurd k
@@ -55,7 +55,7 @@ notification_again method (Some (object ms)) k = refl
 failed_again : (id : Option Id) (code : ℤ) (message : List ℕ) → FitsSigned w64 code → failure_with id (as_i64 (of_integer code)) (Some message) ≡ Some (failure id code message)
 failed_again id code message h = ap (λ c. failure_with id c (Some message)) (number_again code h)
 
-message_again : (m : Said) → Returns m → HasCode m → message_of (said_data m) ≡ Some m
+message_again : (m : Said) → Returns m → HasCode m → message_in (said_data m) ≡ Some m
 message_again (request id method params) h code = request_again id method params h.id h.params
 message_again (notification method params) h code = notification_again method params h.params
 message_again (result id value) h code =

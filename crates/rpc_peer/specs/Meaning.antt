@@ -26,18 +26,18 @@ abbrev pub is_text : List ℕ → Option (List ℕ) → Bool
 is_text text found = option_map_or (pointwise ◌==◌ text) found false
 
 -- an id is a whole number, or a text within its limit
-abbrev pub id_of : Data → Option Id
-id_of null = None
-id_of (boolean b) = None
-id_of (number n) = option_map ids.Number (as_i64 n)
-id_of (string t) = if nat_le (length t) id_limit then Some (ids.Text t) else None
-id_of (array items) = None
-id_of (object ms) = None
+abbrev pub id_in : Data → Option Id
+id_in null = None
+id_in (boolean b) = None
+id_in (number n) = option_map ids.Number (as_i64 n)
+id_in (string t) = if nat_le (length t) id_limit then Some (ids.Text t) else None
+id_in (array items) = None
+id_in (object ms) = None
 
 -- the id of a response, which is null where the request's couldn't be read
 abbrev pub answered_id : Data → Option (Option Id)
 answered_id null = Some None
-answered_id d = option_map Some (id_of d)
+answered_id d = option_map Some (id_in d)
 
 -- params are an array or an object, or none, as where they are null
 abbrev pub params_of : Option Data → Option (Option Data)
@@ -53,7 +53,7 @@ params_of (Some (object ms)) = Some (Some (object ms))
 
 abbrev pub call_with : Option Data → List ℕ → Option Data → Option Said
 call_with None method params = Some (notification method params)
-call_with (Some d) method params = option_map (λ id. request id method params) (id_of d)
+call_with (Some d) method params = option_map (λ id. request id method params) (id_in d)
 
 abbrev pub call_of : Data → Option Data → Option Data → Option Said
 call_of method id params =
@@ -83,8 +83,8 @@ by_method (Some method) d = call_of method (get (codes "id") d) (get (codes "par
 by_method None d = response_of (get (codes "id") d) (get (codes "result") d) (get (codes "error") d)
 
 -- the message that a JSON value is; each is of the version 2.0
-abbrev pub message_of : Data → Option Said
-message_of d = if is_text (codes "2.0") (text_member (codes "jsonrpc") d) then by_method (get (codes "method") d) d else None
+abbrev pub message_in : Data → Option Said
+message_in d = if is_text (codes "2.0") (text_member (codes "jsonrpc") d) then by_method (get (codes "method") d) d else None
 
 -- the codes of a body that is no JSON, and of one that is no message
 abbrev pub parse_error : ℤ
@@ -99,7 +99,11 @@ message_or (Some m) = Ok m
 
 abbrev pub meaning_of : Option Data → Result Said ℤ
 meaning_of None = Err parse_error
-meaning_of (Some d) = message_or (message_of d)
+meaning_of (Some d) = message_or (message_in d)
+
+-- how deep the values of a body nest at most, its own object counted
+abbrev pub nesting_limit : ℕ
+nesting_limit = 127
 
 -- the JSON value of a body that is text
 abbrev pub body_value : List ℕ → Option Data

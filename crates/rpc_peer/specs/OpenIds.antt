@@ -15,13 +15,13 @@ same_id (Text s) (Text t) = pointwise ◌==◌ s t
 same_id (Number m) (Text t) = false
 same_id (Text s) (Number n) = false
 
-abbrev pub is_open : Id → List Id → Bool
-is_open id ids = list_any (same_id id) ids
+abbrev pub has_id : Id → List Id → Bool
+has_id id ids = list_any (same_id id) ids
 
 -- the open ids without this one
-abbrev pub without : Id → List Id → List Id
-without id [] = []
-without id (other ∷ ids) = if same_id id other then ids else other ∷ without id ids
+abbrev pub without_id : Id → List Id → List Id
+without_id id [] = []
+without_id id (other ∷ ids) = if same_id id other then ids else other ∷ without_id id ids
 
 -- an id is refused as open exactly where it is; there may be no memory for one that isn't
 abbrev pub BeginsAs : Result ⊤ BeginFault → Bool → Type 0

@@ -2,7 +2,7 @@
 use Rattle.std.specs.Prelude.{◌≤◌, FitsSigned, Option, Some, None}
 use Rattle.std.specs.Int.{w64}
 use Rattle.serde_json.specs.Data.{Data, null, boolean, number, string, array, object, depth}
-use Rattle.serde_json.specs.Read.{max_depth}
+use Rattle.rpc_peer.specs.Meaning.{nesting_limit}
 use Rattle.rpc_peer.specs.Said.{Said, request, notification, result, failure, said_data, HasId}
 
 -- params are an array, an object, or none
@@ -28,8 +28,8 @@ HasCode (notification method params) = Unit {0}
 HasCode (result id value) = Unit {0}
 HasCode (failure id code message) = FitsSigned w64 code
 
--- its id is one, its params are params, and it doesn't nest deeper than `serde_json` reads
+-- its id is one, its params are params, and it doesn't nest deeper than a body may
 pub record Returns (m : Said) : Type 0 where
   pub id : HasId m
   pub params : HasParams m
-  pub nests : depth (said_data m) ≤ max_depth
+  pub nests : depth (said_data m) ≤ nesting_limit

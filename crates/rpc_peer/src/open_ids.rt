@@ -42,7 +42,7 @@ impl Model for OpenIds {
 
 impl OpenIds {
     ghost use Rattle.std.specs.Prelude.{◌≡◌, ◌++◌, [], ◌∷◌, false, IfOk, OnOk, OnErr, option_copied, slice_get};
-    ghost use Rattle.rpc_peer.specs.OpenIds.{is_open, without, BeginsAs};
+    ghost use Rattle.rpc_peer.specs.OpenIds.{has_id, without_id, BeginsAs};
 
     /// No id is open.
     pub fn new(alloc: Global) -> Result<OpenIds, NoMemory>
@@ -56,7 +56,7 @@ impl OpenIds {
     pub fn begin(&mut self, id: Id) -> Result<(), BeginFault>
         ensures begun { OnOk result (self.new ≡ self.old ++ id ∷ []) }
         ensures unchanged { OnErr result (self.new ≡ self.old) }
-        ensures open { BeginsAs result (is_open id self.old) }
+        ensures open { BeginsAs result (has_id id self.old) }
     {
         let is_new = self.ids.insert(id)?;
         if is_new {
@@ -68,16 +68,16 @@ impl OpenIds {
 
     /// Closes an id, and tells whether it was open. Takes no memory.
     pub fn close(&mut self, id: &Id) -> bool
-        ensures open { result ≡ is_open id.now self.old }
-        ensures others { self.new ≡ without id.now self.old }
-        ensures closed { is_open id.now self.new ≡ false }
+        ensures open { result ≡ has_id id.now self.old }
+        ensures others { self.new ≡ without_id id.now self.old }
+        ensures closed { has_id id.now self.new ≡ false }
     {
         self.ids.shift_remove(id)
     }
 
     /// Takes no memory.
     pub fn is_open(&self, id: &Id) -> bool
-        ensures { result ≡ is_open id.now self.now }
+        ensures { result ≡ has_id id.now self.now }
     {
         self.ids.contains(id)
     }

@@ -1,10 +1,10 @@
-ghost use Rattle.std.specs.Prelude.{◌≡◌, ◌≤◌, codes, string_bytes, IfOk, IfSome, option_map, option_and_then};
+ghost use Rattle.std.specs.Prelude.{◌≡◌, ◌≤◌, Some, codes, string_bytes, IfOk, IfSome, option_map, option_and_then};
 ghost use Rattle.std.specs.Str.{IsUtf8};
 ghost use Rattle.serde_json.specs.Find.{get, as_i64, as_number, as_str};
 ghost use Rattle.serde_json.specs.View.{view, members_view};
-ghost use Rattle.serde_json.specs.Data.{object};
+ghost use Rattle.serde_json.specs.Data.{Data, depth, object};
 ghost use Rattle.rpc_peer.specs.Said.{said, request, HasId, HasTexts, IsAnyId, IsId};
-ghost use Rattle.rpc_peer.specs.Meaning.{meaning, message_of, body_value, id_of, answered_id, params_of, call_of, call_with, response_of, answer_of, failure_of, whole_number, by_method, is_text, text_member, ReadAs};
+ghost use Rattle.rpc_peer.specs.Meaning.{meaning, message_in, body_value, id_in, answered_id, params_of, call_of, call_with, response_of, answer_of, failure_of, whole_number, by_method, is_text, nesting_limit, text_member, ReadAs};
 
 use crate::members::take_member;
 use crate::message::{ErrorObject, ID_LIMIT, Id, Message};
@@ -13,18 +13,18 @@ use ob_text::{Bytes, NoMemory, Text};
 use serde_json::{Map, Value};
 use std::alloc::Global;
 
-/// Reads the body of a frame as a message. Its values nest at most 127 deep, as `serde_json` reads
-/// them. An error object's data, and members of other names, aren't kept.
-#[tactic(auto, unfolding(crate::specs::Meaning::meaning))]
+/// Reads the body of a frame as a message. A body whose values nest deeper than 127 is no JSON. An error object's data, and members of other names, aren't kept.
+#[tactic(auto, unfolding(crate::specs::Meaning::meaning), using(crate::proofs::Bodies::body_nests))]
 pub fn read_message(alloc: Global, body: &[u8]) -> Result<Message, Refusal>
     ensures meaning { ReadAs result (meaning body.now) }
+    ensures nests { (d : Data) → body_value body.now ≡ Some d → depth d ≤ nesting_limit }
     ensures texts { IfOk result (λ m. HasTexts (said m)) }
     ensures id { IfOk result (λ m. HasId (said m)) }
 {
     let Some(value) = value_of(alloc, body)? else {
         return Err(Refusal::Coded(PARSE_ERROR));
     };
-    message_of(value).ok_or(Refusal::Coded(INVALID_REQUEST))
+    message_in(value).ok_or(Refusal::Coded(INVALID_REQUEST))
 }
 
 // The JSON value of a body, where it is one.
@@ -44,8 +44,8 @@ fn value_of(alloc: Global, body: &[u8]) -> Result<Option<Value>, NoMemory>
     }
 }
 
-fn message_of(value: Value) -> Option<Message>
-    ensures meaning { option_map said result ≡ message_of (view value) }
+fn message_in(value: Value) -> Option<Message>
+    ensures meaning { option_map said result ≡ message_in (view value) }
     ensures texts { IfSome result (λ m. HasTexts (said m)) }
     ensures id { IfSome result (λ m. HasId (said m)) }
 {
@@ -134,7 +134,7 @@ fn call_with(id: Option<Value>, method: Text, params: Option<Value>) -> Option<M
 {
     match id {
         Some(id) => {
-            let id = id_of(id)?;
+            let id = id_in(id)?;
             Some(Message::Request { id, method, params })
         }
         None => Some(Message::Notification { method, params }),
@@ -173,7 +173,7 @@ fn answered_id(id: Option<Value>) -> Option<Option<Id>>
     match id {
         None => None,
         Some(Value::Null) => Some(None),
-        Some(id) => id_of(id).map(Some),
+        Some(id) => id_in(id).map(Some),
     }
 }
 
@@ -236,8 +236,8 @@ fn text_in(value: Value) -> Option<Text>
     }
 }
 
-fn id_of(value: Value) -> Option<Id>
-    ensures id { result ≡ id_of (view value) }
+fn id_in(value: Value) -> Option<Id>
+    ensures id { result ≡ id_in (view value) }
     ensures found { IfSome result IsId }
 {
     match value {
