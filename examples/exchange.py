@@ -1,14 +1,23 @@
 """Talks to a build server as an editor does, and prints the exchange for a person to read. The workspace is
 a copy of FOLDER, in which a module is broken and mended.
 
-usage: exchange.py PROGRAM FOLDER
+usage: exchange.py [--messages] PROGRAM FOLDER
+
+Each message is a line, and each diagnostic stands below the message that publishes it, as compilers show it. With
+--messages each message is shown whole, as JSON.
 """
 import json
 import pathlib
+import re
 import shutil
 import subprocess
 import sys
 import tempfile
+import unicodedata
+import urllib.parse
+
+SEVERITIES = {1: "error", 2: "warning", 3: "note", 4: "hint"}
+STATUSES = {1: "ok", 2: "error", 3: "cancelled"}
 
 
 def frame(message):
@@ -26,21 +35,89 @@ def next_message(stream):
     return None if length is None else json.loads(stream.read(length))
 
 
-def show(who, what, value):
-    print(f"{who:>6}  {what}")
-    if value is not None:
-        for line in json.dumps(value, indent=2).splitlines():
-            print("        " + line)
-    print()
+# ---- diagnostics
+
+
+def lines_of(text):
+    """The lines of a text, as the protocol counts them."""
+    return re.split("\r\n|\r|\n", text)
+
+
+def index_of(line, character):
+    """The index in a line of a character of the protocol, which counts UTF-16 units."""
+    units = 0
+    for index, char in enumerate(line):
+        if units >= character:
+            return index
+        units += 2 if char > "\uffff" else 1
+    return len(line)
+
+
+def blank_for(char):
+    """What takes as much room on a line as the character does."""
+    if char == "\t":
+        return "\t"
+    if unicodedata.category(char) in ("Mn", "Me", "Cf"):
+        return ""
+    return "  " if unicodedata.east_asian_width(char) in ("W", "F") else " "
+
+
+def printable(line):
+    """A line without characters that would act on a terminal."""
+    return "".join(c if c == "\t" or unicodedata.category(c) != "Cc" else "\N{REPLACEMENT CHARACTER}" for c in line)
+
+
+def shown(diagnostic, path, text):
+    """The lines in which compilers show a diagnostic of a text: where it is and what it says, the line of the text, and
+    a mark under the range, or under its part in that line."""
+    start, end = diagnostic["range"]["start"], diagnostic["range"]["end"]
+    lines = lines_of(text)
+    line = lines[start["line"]] if start["line"] < len(lines) else ""
+    begin = index_of(line, start["character"])
+    behind = index_of(line, end["character"]) if end["line"] == start["line"] else len(line)
+    kind = SEVERITIES[diagnostic.get("severity", 1)]
+    margin = "".join(map(blank_for, line[:begin]))
+    width = len("".join(map(blank_for, line[begin:behind])))
+    yield f"{path}:{start['line'] + 1}:{begin + 1}: {kind}: {diagnostic['message']}"
+    yield f"    {printable(line)}"
+    yield f"    {margin}^{'~' * (width - 1)}"
+
+
+# ---- the exchange
+
+
+def short_of(value):
+    """What an answer tells, in few words."""
+    if "code" in value:
+        return f"{value['code']} {value['message']}"
+    if "statusCode" in value:
+        return STATUSES[value["statusCode"]]
+    if "items" in value:
+        return ", ".join(source["uri"] for item in value["items"] for source in item["sources"])
+    if "targets" in value:
+        return ", ".join(target["id"]["uri"] for target in value["targets"])
+    return " ".join(str(value[name]) for name in ("displayName", "version") if name in value)
 
 
 class Client:
-    def __init__(self, program, folder):
+    def __init__(self, program, folder, is_whole):
         self.server = subprocess.Popen(
-            [program, "serve", folder], stdin=subprocess.PIPE, stdout=subprocess.PIPE
+            [program, "serve", str(folder)], stdin=subprocess.PIPE, stdout=subprocess.PIPE
         )
+        self.folder = folder
+        self.is_whole = is_whole
         self.last_id = 0
         self.targets = []
+
+    def show(self, who, what, value, lines=()):
+        """Prints a message, and what it says: its value as JSON, or else these lines."""
+        print(f"{who:>6}  {what}")
+        if self.is_whole:
+            lines = json.dumps(value, indent=2).splitlines() if value is not None else []
+        for line in lines:
+            print("        " + line)
+        if self.is_whole or lines:
+            print()
 
     def send(self, message):
         self.server.stdin.write(frame(message))
@@ -51,19 +128,37 @@ class Client:
         message = {"jsonrpc": "2.0", "id": self.last_id, "method": method}
         if params is not None:
             message["params"] = params
-        show("client", f"request {self.last_id}: {method}", params)
+        self.show("client", f"request {self.last_id}: {method}", params)
         self.send(message)
         while (answer := next_message(self.server.stdout)) is not None:
             if answer.get("id") == self.last_id and "method" not in answer:
-                kind = "error" if "error" in answer else "result"
-                null = ": null" if answer[kind] is None else ""
-                show("server", f"{kind} of request {self.last_id}{null}", answer[kind])
+                self.show_answer(answer)
                 return answer
-            show("server", answer.get("method", "response"), answer.get("params"))
+            self.show("server", answer.get("method", "response"), answer.get("params"), self.lines_of(answer))
         sys.exit("the server ended without an answer")
 
+    def show_answer(self, answer):
+        kind = "error" if "error" in answer else "result"
+        value = answer[kind]
+        if value is None:
+            short = "null"
+        else:
+            short = "" if self.is_whole else short_of(value)
+        self.show("server", f"{kind} of request {self.last_id}" + (f": {short}" if short else ""), value)
+
+    def lines_of(self, message):
+        """What a publication says."""
+        if message.get("method") != "build/publishDiagnostics":
+            return []
+        params = message["params"]
+        file = pathlib.Path(urllib.parse.unquote(urllib.parse.urlsplit(params["textDocument"]["uri"]).path))
+        path = file.relative_to(self.folder)
+        text = file.read_bytes().decode(errors="replace") if file.is_file() else ""
+        lines = [line for diagnostic in params["diagnostics"] for line in shown(diagnostic, path, text)]
+        return lines or [f"{path} has no errors any more"]
+
     def notify(self, method):
-        show("client", f"notification: {method}", None)
+        self.show("client", f"notification: {method}", None)
         self.send({"jsonrpc": "2.0", "method": method})
 
     def status(self):
@@ -73,7 +168,7 @@ class Client:
 
 def compile_all(client, note):
     """Compiles every target of the workspace that the client opened."""
-    print(f"-- {note}\n")
+    print(f"-- {note}\n" if client.is_whole else f"\n-- {note}")
     client.request("buildTarget/compile", {"targets": client.targets})
 
 
@@ -111,17 +206,22 @@ def show_session(client, folder):
 
 
 def main():
-    if len(sys.argv) != 3:
+    words = sys.argv[1:]
+    is_whole = words[:1] == ["--messages"]
+    if is_whole:
+        words = words[1:]
+    if len(words) != 2:
         sys.exit(__doc__)
-    program, original = sys.argv[1:]
+    program, original = words
     with tempfile.TemporaryDirectory() as place:
         folder = pathlib.Path(place).resolve() / "workspace"
         shutil.copytree(original, folder)
-        client = Client(program, str(folder))
+        client = Client(program, folder, is_whole)
         show_session(client, folder)
         status = client.status()
     print(f"The server ended with status {status}.")
     sys.exit(status)
 
 
-main()
+if __name__ == "__main__":
+    main()
