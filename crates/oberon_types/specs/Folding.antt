@@ -7,7 +7,7 @@ use Rattle.std.specs.Int.Bits.{bit_and, bit_or, bit_xor}
 use Rattle.std.specs.declared.cmp.Ordering.{Ordering}
 use Rattle.std.specs.Ordering.{is_eq, is_ne, is_lt, is_le, is_gt, is_ge, nat_cmp, int_cmp, int_eq}
 use Rattle.std.specs.Cmp.Lexicographic.{slice_cmp}
-use Rattle.std.specs.Option.{is_some}
+use Rattle.std.specs.Option.{is_some, option_map, option_map_or, option_and_then}
 use Rattle.oberon_types.specs.declared.constant.Op.{Op}
 use Rattle.oberon_types.specs.declared.constant.Op.TheVariants as ops
 use Rattle.oberon_types.specs.declared.constant.FoldingFunction.{FoldingFunction}
@@ -121,10 +121,14 @@ abbrev pub same_truth : Bool → Bool → Bool
 same_truth true b = b
 same_truth false b = not b
 
+-- the number from 0 up to the end, without it
+abbrev pub below : ℕ → ℤ → Option ℕ
+below end (pos n) = if nat_lt n end then Some n else None
+below end (negsuc n) = None
+
 -- outside of 0 to 31 nothing is in a set
 abbrev pub is_in : ℤ → ℕ → Bool
-is_in (pos n) m = nat_lt n 32 && (bit_at m n == 1)
-is_in (negsuc n) m = false
+is_in x m = option_map_or (λ n. bit_at m n == 1) (below 32 x) false
 
 abbrev pub in_op : Op → ℤ → ℕ → Option Value
 in_op ops.In x m = truth (is_in x m)
@@ -170,10 +174,6 @@ value_op ops.Subtract (values.Set x) = Some (values.Set (bit_xor x 4294967295))
 value_op ops.Not (values.Boolean b) = truth (not b)
 value_op _ _ = None
 
-abbrev pub on_value : (Value → Option Value) → Option Value → Option Value
-on_value f None = None
-on_value f (Some v) = f v
-
 abbrev pub only_truth : Option Value → Option Value
 only_truth (Some (values.Boolean b)) = truth b
 only_truth _ = None
@@ -192,13 +192,13 @@ or_value _ b = None
 abbrev pub binary_value : Op → Option Value → Option Value → Option Value
 binary_value ops.And a b = and_value a b
 binary_value ops.Or a b = or_value a b
-binary_value o a b = on_value (λ v. on_value (values_op o v) b) a
+binary_value o a b = option_and_then (λ v. option_and_then (values_op o v) b) a
 
 -- ---- values of sets
 
 -- an end of an element is from 0 to 31
 abbrev pub end_value : Option Value → Option ℕ
-end_value (Some (values.Integer (pos n))) = if nat_lt n 32 then Some n else None
+end_value (Some (values.Integer x)) = below 32 x
 end_value _ = None
 
 -- the bits from the first number to the last; none where the first is above the last
@@ -206,12 +206,11 @@ abbrev pub range_bits : ℕ → ℕ → ℕ
 range_bits low high = 2 ^ (high + 1) - 2 ^ low
 
 abbrev pub with_range : Option ℕ → Option ℕ → Option ℕ → Option ℕ
-with_range (Some low) (Some high) (Some rest) = Some (bit_or (range_bits low high) rest)
+with_range (Some m) (Some low) (Some high) = Some (bit_or m (range_bits low high))
 with_range _ _ _ = None
 
 abbrev pub set_value : Option ℕ → Option Value
-set_value None = None
-set_value (Some n) = Some (values.Set n)
+set_value m = option_map (λ n. values.Set n) m
 
 -- ---- values of calls
 
@@ -222,17 +221,12 @@ shifted functions.Asr x n = Some (values.Integer (int_div_euclid x (pos (2 ^ n))
 shifted functions.Ror x n = Some (values.Integer (cast_signed w32 (rotate_right w32 (cast_unsigned w32 x) n)))
 shifted _ x n = None
 
-abbrev pub shift_by : FoldingFunction → ℤ → Option ℕ → Option Value
-shift_by f x None = None
-shift_by f x (Some n) = shifted f x n
-
-abbrev pub shift_op : FoldingFunction → Value → Option Value → Option Value
-shift_op f (values.Integer x) n = shift_by f x (end_value n)
+abbrev pub shift_op : FoldingFunction → Value → Option ℕ → Option Value
+shift_op f (values.Integer x) n = option_and_then (shifted f x) n
 shift_op f _ n = None
 
 abbrev pub character : ℤ → Option Value
-character (pos n) = if nat_lt n 256 then Some (values.Char n) else None
-character (negsuc n) = None
+character x = option_map (λ n. values.Char n) (below 256 x)
 
 abbrev pub absolute : ℤ → Option Value
 absolute (pos n) = whole (pos n)
@@ -253,12 +247,10 @@ function_op functions.Ord v = ordinal v
 function_op _ _ = None
 
 abbrev pub call_one : Option FoldingFunction → Option Value → Option Value
-call_one None v = None
-call_one (Some f) v = on_value (function_op f) v
+call_one f v = option_and_then (λ g. option_and_then (function_op g) v) f
 
 abbrev pub call_two : Option FoldingFunction → Option Value → Option Value → Option Value
-call_two None v n = None
-call_two (Some f) v n = on_value (λ x. shift_op f x n) v
+call_two f v w = option_and_then (λ g. option_and_then (λ x. shift_op g x (end_value w)) v) f
 
 -- ---- the value of an expression
 
@@ -266,14 +258,15 @@ abbrev mutual
   pub value_of : ConstTree → Option Value
   value_of (known_const v) = Some v
   value_of other_const = None
-  value_of (unary_const o e) = on_value (value_op o) (value_of e)
+  value_of (unary_const o e) = option_and_then (value_op o) (value_of e)
   value_of (binary_const o a b) = binary_value o (value_of a) (value_of b)
-  value_of (set_const rs) = set_value (ranges_value rs)
+  value_of (set_const rs) = set_value (with_ranges (Some 0) rs)
   value_of (call_const f ps) = call_value (folding_function f) ps
 
-  pub ranges_value : RangesTree → Option ℕ
-  ranges_value no_ranges = Some 0
-  ranges_value (more_ranges a b rs) = with_range (end_value (value_of a)) (end_value (value_of b)) (ranges_value rs)
+  -- the set with these elements put in, one after another
+  pub with_ranges : Option ℕ → RangesTree → Option ℕ
+  with_ranges m no_ranges = m
+  with_ranges m (more_ranges a b rs) = with_ranges (with_range m (end_value (value_of a)) (end_value (value_of b))) rs
 
   pub call_value : Option FoldingFunction → PartsTree → Option Value
   call_value f no_parts = None

@@ -1,3 +1,4 @@
+pub mod Constants
 pub mod Entities
 pub mod Folding
 pub mod Memory

@@ -6,14 +6,20 @@
 //! `Sizes.antt`, `Entities.antt` and `Folding.antt`. `Memory.antt` leads from the Rust types to the plain ones.
 #![tactic(auto)]
 
+mod call;
 mod constant;
 mod entity;
+mod fold;
+mod operator;
 mod origin;
 mod ty;
 mod value;
 
+pub use call::{call_one, call_two, end_value, folding_function, with_range};
 pub use constant::{ConstExpr, FoldFault, FoldingFunction, Op};
 pub use entity::{Entity, Exports, Param, Signature, View};
+pub use fold::fold_const;
+pub use operator::{binary_value, unary_value};
 pub use origin::{Origin, Step};
 pub use ty::{Field, RecordTy, Ty, assignable, extends, same_type};
 pub use value::Value;
