@@ -78,3 +78,7 @@ too_large me t = nat_lt 4096 (weight me t) || nat_lt 1048576 (size_of t)
 -- a length that an array may have
 abbrev pub is_length : ℕ → Bool
 is_length n = nat_lt 0 n && nat_lt n 1048577
+
+-- the type, where it is not too large
+abbrev pub within : List ℕ → TyTree → Option TyTree
+within me t = if too_large me t then None else Some t

@@ -65,7 +65,11 @@ pub fn call_one(function: Option<FoldingFunction>, value: Option<Value>) -> Opti
 }
 
 /// The value of a call with two arguments; None is a trap.
-pub fn call_two(function: Option<FoldingFunction>, value: Option<Value>, by: Option<Value>) -> Option<Value>
+pub fn call_two(
+    function: Option<FoldingFunction>,
+    value: Option<Value>,
+    by: Option<Value>,
+) -> Option<Value>
     ensures { result ≡ call_two function value by }
 {
     match (function, value, end_value(by)) {

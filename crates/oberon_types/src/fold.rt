@@ -84,7 +84,11 @@ fn value_of(alloc: Global, e: &ConstExpr) -> Result<Option<Value>, NoMemory>
             Some(set) => Ok(Some(Value::Set(set))),
             None => Ok(None),
         },
-        ConstExpr::Call { function, parts } => call_value(alloc, folding_function(function), parts.as_slice()),
+        ConstExpr::Call { function, parts } => call_value(
+            alloc,
+            folding_function(function),
+            parts.as_slice(),
+        ),
     }
 }
 
@@ -102,7 +106,11 @@ fn with_ranges(alloc: Global, ranges: &[(ConstExpr, ConstExpr)]) -> Result<Optio
 }
 
 #[cycle(value)]
-fn call_value(alloc: Global, function: Option<FoldingFunction>, parts: &[ConstExpr]) -> Result<Option<Value>, NoMemory>
+fn call_value(
+    alloc: Global,
+    function: Option<FoldingFunction>,
+    parts: &[ConstExpr],
+) -> Result<Option<Value>, NoMemory>
     ensures { IfOk result (λ v. v ≡ call_value function (parts_list parts.now)) }
 {
     match parts {
