@@ -719,9 +719,14 @@ It is begun where there is none."
     (oberon-bsp--mark)
     (kill-local-variable 'flymake-diagnostic-functions)
     (kill-local-variable 'flymake-no-changes-timeout)
-    (unless (oberon-bsp--buffers session)
-      (remhash (oberon-bsp--session-root session) oberon-bsp--sessions)
-      (oberon-bsp--stop session))))
+    ;; A buffer that is read again leaves and comes back.
+    (run-with-timer 0 nil #'oberon-bsp--end-unused session)))
+
+(defun oberon-bsp--end-unused (session)
+  "End SESSION where it has no buffer."
+  (unless (oberon-bsp--buffers session)
+    (remhash (oberon-bsp--session-root session) oberon-bsp--sessions)
+    (oberon-bsp--stop session)))
 
 (defun oberon-bsp--saved ()
   "Compile the targets of this buffer's file.

@@ -487,7 +487,7 @@ local function join(buffer)
   end
 end
 
--- A session ends with its last buffer.
+-- A session ends with its last buffer. A buffer that is read again leaves and comes back.
 local function leave(buffer)
   local member = members[buffer]
   if not member then
@@ -495,10 +495,12 @@ local function leave(buffer)
   end
   members[buffer] = nil
   vim.diagnostic.reset(namespace, buffer)
-  if #buffers_of(member.session) == 0 then
-    sessions[member.session.root] = nil
-    stop(member.session)
-  end
+  vim.schedule(function()
+    if #buffers_of(member.session) == 0 then
+      sessions[member.session.root] = nil
+      stop(member.session)
+    end
+  end)
 end
 
 local function saved(buffer)
