@@ -124,6 +124,3 @@ fn zeros(alloc: Global, count: usize) -> Result<Vec<u8>, AllocError>
 {
     vec![in alloc; 0; count]
 }
-
-#[cfg(test)]
-mod tests;

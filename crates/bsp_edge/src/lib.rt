@@ -23,5 +23,5 @@ pub use mem_sink::MemSink;
 pub use mem_source::MemSource;
 pub use mem_tree::MemTree;
 pub use reading::{Got, Source};
-pub use streams::{RealSink, StdinSource};
+pub use streams::{RealSink, StdinSource, read_piece, write_piece};
 pub use writing::{Put, Sink};

@@ -76,37 +76,3 @@ impl Sink for MemSink {
         Put::Took(piece.len())
     }
 }
-
-#[cfg(test)]
-mod tests {
-    use super::*;
-    use std::test::Fail;
-
-    fn write<K: Sink>(sink: &mut K, piece: &[u8]) -> Put
-        requires { 0 < length piece.now }
-    {
-        sink.write(piece)
-    }
-
-    #[test]
-    fn takes_whole_pieces_within_its_room(rt: HostRuntime) -> Result<(), Fail> {
-        let failing = Vec::from_slice(rt.alloc(), &[4, 2])?;
-        let mut sink = MemSink::new(rt.alloc(), 5, failing)?;
-        assert_eq!(rt; write(&mut sink, b"abc"), Put::Took(3));
-        assert_eq!(rt; write(&mut sink, b"d"), Put::Failed);
-        assert_eq!(rt; write(&mut sink, b"def"), Put::Failed);
-        assert_eq!(rt; write(&mut sink, b"de"), Put::Failed);
-        assert_eq!(rt; write(&mut sink, b"de"), Put::Took(2));
-        assert_eq!(rt; write(&mut sink, b"f"), Put::Failed);
-        assert_eq!(rt; sink.given(), b"abcde".as_slice());
-        Ok(())
-    }
-
-    #[test]
-    fn without_room_takes_nothing(rt: HostRuntime) -> Result<(), Fail> {
-        let mut sink = MemSink::new(rt.alloc(), 0, Vec::new(rt.alloc()))?;
-        assert_eq!(rt; write(&mut sink, b"a"), Put::Failed);
-        assert!(rt; sink.given().is_empty());
-        Ok(())
-    }
-}

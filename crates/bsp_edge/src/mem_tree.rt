@@ -162,6 +162,3 @@ fn is_later(change: &(u64, Path, Held), number: u64, call: u64, path: &Path) -> 
 {
     number.max(1) <= change.0 && change.0 <= call && change.1 == *path
 }
-
-#[cfg(test)]
-mod tests;

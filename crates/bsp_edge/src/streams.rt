@@ -46,8 +46,8 @@ impl<R: Input> Source for StdinSource<R> {
     }
 }
 
-/// Reads a piece, again where a signal interrupts the call.
-pub(crate) fn read_piece<I: Read>(input: &mut I, into: &mut [u8]) -> Got
+/// Reads a piece, again where a signal interrupts the call, 64 times at the most.
+pub fn read_piece<I: Read>(input: &mut I, into: &mut [u8]) -> Got
     requires { 0 < length into.old }
     ensures took { TookInto into.new result }
     ensures known { TookKnown (I.remaining input.old) (I.remaining input.new) into.new result }
@@ -144,8 +144,8 @@ impl<R: Files + Print> Sink for RealSink<R> {
     }
 }
 
-/// Writes from the front of a piece, again where a signal interrupts the call.
-fn write_piece<W: Write>(output: &mut W, piece: &[u8]) -> Put
+/// Writes from the front of a piece, again where a signal interrupts the call, 64 times at the most.
+pub fn write_piece<W: Write>(output: &mut W, piece: &[u8]) -> Put
     ensures { TookWithin piece.now result }
 {
     for _ in 0..TRIES {
@@ -161,6 +161,3 @@ fn write_piece<W: Write>(output: &mut W, piece: &[u8]) -> Put
     }
     Put::Failed
 }
-
-#[cfg(test)]
-mod tests;

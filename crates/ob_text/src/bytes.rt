@@ -115,28 +115,3 @@ impl<K> Hash for Bytes<K> {
         self.items.hash(state)
     }
 }
-
-#[cfg(test)]
-mod tests {
-    use crate::{Name, Path, Text};
-    use std::collections::HashSet;
-    use std::test::Fail;
-
-    #[test]
-    fn owns_and_gives_back(rt: HostRuntime) -> Result<(), Fail> {
-        let alloc = rt.alloc();
-        let path = Path::new(alloc, b"A.Mod")?;
-        assert_eq!(rt; path.as_slice(), b"A.Mod".as_slice());
-        assert_eq!(rt;
-            path.copy(alloc)?.into_vec().as_slice(),
-            b"A.Mod".as_slice()
-        );
-        assert!(rt; Text::new(alloc, b"a")? != Text::new(alloc, b"b")?);
-        assert!(rt; Text::new(alloc, b"ab")?.followed_by(b"c")? == Text::new(alloc, b"abc")?);
-        let mut names = HashSet::new(alloc);
-        names.insert(Name::new(alloc, b"app")?)?;
-        assert!(rt; names.contains(&Name::new(alloc, b"app")?));
-        assert!(rt; !names.contains(&Name::new(alloc, b"lib")?));
-        Ok(())
-    }
-}

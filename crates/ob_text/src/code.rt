@@ -157,20 +157,3 @@ impl Code {
         }
     }
 }
-
-#[cfg(test)]
-mod tests {
-    use crate::{Code, Severity};
-
-    #[test]
-    fn prints(rt: HostRuntime) {
-        assert_eq!(rt; Code::OpenComment.name(), "openComment");
-        assert_eq!(rt; Code::OpenComment.message(), "comment is not closed");
-        assert_eq!(rt; Code::UnusedImport.message(), "unused import: ");
-        assert_eq!(rt; Code::UnusedImport.severity() as u8, 2);
-        assert_eq!(rt; Code::BadControl.severity() as u8, 1);
-        assert_eq!(rt; Severity::Error as u8, 1);
-        assert_eq!(rt; Code::DocumentAbsent as u8, 1);
-        assert_eq!(rt; Code::BadControl as u8, 38);
-    }
-}

@@ -18,9 +18,6 @@ pub use damage::{Damage, DamageKind, FeedFault};
 pub use stream::Decoder;
 pub use write::frame_into;
 
-#[cfg(test)]
-mod tests;
-
 /// The most bytes that the header part of a frame may have, with the empty line that closes it.
 pub const HEADER_LIMIT: usize = 1_024;
 

@@ -1,5 +1,5 @@
 use Rattle.std.proofs.Common.{◌+◌, ◌≤◌, length}
-use Rattle.rpc_frame.proofs.tests.take_all.Given as goal
+use Rattle.protocol_tests.proofs.frames.take_all.Given as goal
 
 abbrev pub invariant-frames : goal.invariant-frames
 invariant-frames l =

@@ -1,7 +1,7 @@
 ghost use Rattle.std.specs.Prelude.{◌+◌, ◌<◌, ◌≤◌, length};
 ghost use Rattle.rpc_frame.specs.Limits.{stream_limit};
 
-use crate::{Damage, DamageKind, Decoder, FeedFault, frame_into};
+use rpc_frame::{Damage, DamageKind, Decoder, FeedFault, frame_into};
 use std::alloc::Global;
 use std::test::Fail;
 

@@ -1,6 +1,6 @@
 use Rattle.std.proofs.Common.{◌+◌, ◌≤◌, length}
 use Rattle.rpc_frame.specs.Limits.{stream_limit}
-use Rattle.rpc_frame.proofs.tests.read.Given as goal
+use Rattle.protocol_tests.proofs.frames.read.Given as goal
 
 abbrev pub invariant-pieces : goal.invariant-pieces
 invariant-pieces l =

@@ -1,0 +1,204 @@
+use ob_text::{Name, NoMemory, Text};
+use rpc_peer::{
+    BeginFault, ErrorObject, INVALID_REQUEST, Id, Message, OpenIds, PARSE_ERROR, Refusal,
+    read_message, write_message,
+};
+use std::alloc::Global;
+use std::process::Abort;
+use std::test::Fail;
+
+/// A body, and the one that its message is written as.
+const READ: [(&str, &str); 14] = [
+    (
+        r#"{"params":{"a":[1]},"method":"build\/initialize","id":-7,"jsonrpc":"2.0"}"#,
+        r#"{"id":-7,"jsonrpc":"2.0","method":"build/initialize","params":{"a":[1]}}"#,
+    ),
+    (
+        r#"{"method":"x","id":"a\u00e9","params":[],"more":{},"jsonrpc":"2.0"}"#,
+        r#"{"id":"aé","jsonrpc":"2.0","method":"x","params":[]}"#,
+    ),
+    (
+        r#"{"id":"a\"b", "params":[1], "jsonrpc":"2.0","method":"x"}"#,
+        r#"{"id":"a\"b","jsonrpc":"2.0","method":"x","params":[1]}"#,
+    ),
+    (
+        r#"{"id":1,"jsonrpc":"2.0","method":"x","params":null}"#,
+        r#"{"id":1,"jsonrpc":"2.0","method":"x"}"#,
+    ),
+    (
+        r#"{"jsonrpc":"2.0","method":"build/exit"}"#,
+        r#"{"jsonrpc":"2.0","method":"build/exit"}"#,
+    ),
+    (
+        r#"{"jsonrpc":"2.0","method":"build/exit","params":null}"#,
+        r#"{"jsonrpc":"2.0","method":"build/exit"}"#,
+    ),
+    (
+        r#"{"method":1,"jsonrpc":"2.0","method":"build/exit","result":1}"#,
+        r#"{"jsonrpc":"2.0","method":"build/exit"}"#,
+    ),
+    (
+        r#"{"params":{"z":1,"a":2},"jsonrpc":"2.0","method":"x"}"#,
+        r#"{"jsonrpc":"2.0","method":"x","params":{"a":2,"z":1}}"#,
+    ),
+    (
+        r#"{"jsonrpc":"2.0","id":9223372036854775807,"result":null}"#,
+        r#"{"id":9223372036854775807,"jsonrpc":"2.0","result":null}"#,
+    ),
+    (
+        r#"{"params":3,"jsonrpc":"2.0","id":-9223372036854775808,"result":{}}"#,
+        r#"{"id":-9223372036854775808,"jsonrpc":"2.0","result":{}}"#,
+    ),
+    (
+        r#"{"jsonrpc":"2.0","id":null,"error":{"code":-1,"message":"no","data":1}}"#,
+        r#"{"error":{"code":-1,"message":"no"},"id":null,"jsonrpc":"2.0"}"#,
+    ),
+    (
+        r#"{"jsonrpc":"2.0","id":7,"error":{"message":"server not initialized","code":-32002}}"#,
+        r#"{"error":{"code":-32002,"message":"server not initialized"},"id":7,"jsonrpc":"2.0"}"#,
+    ),
+    (
+        r#"{"jsonrpc":"2.0","id":"1","result":[true,"é"]}"#,
+        r#"{"id":"1","jsonrpc":"2.0","result":[true,"é"]}"#,
+    ),
+    (
+        r#"{"jsonrpc":"2.0","id":0,"result":"\u0007\/"}"#,
+        r#"{"id":0,"jsonrpc":"2.0","result":"\u0007/"}"#,
+    ),
+];
+
+#[test]
+fn writes_what_it_reads(rt: HostRuntime) -> Result<(), Fail> {
+    for (body, written) in READ {
+        match read_message(rt.alloc(), body.as_bytes()) {
+            Ok(message) => {
+                let again = write_message(rt.alloc(), &message)?;
+                assert_eq!(rt; again.as_slice(), written.as_bytes(), "{body}");
+            }
+            Err(_) => panic!(rt; "{body} is refused"),
+        }
+    }
+    Ok(())
+}
+
+/// A body that is no message, and the code that its sender is answered.
+const REFUSED: [(&[u8], i32); 31] = [
+    (b"", -32700),
+    (b"{", -32700),
+    (b"\xff", -32700),
+    (b"\"\xff\"", -32700),
+    (br#"{"jsonrpc":"2.0","method":"x"}}"#, -32700),
+    (br#"{"jsonrpc":"2.0","method":"x",}"#, -32700),
+    (br#"{"jsonrpc":"2.0","method":"x","id":1e999}"#, -32700),
+    (b"[]", -32600),
+    (b"null", -32600),
+    (br#"[{"jsonrpc":"2.0","method":"x"}]"#, -32600),
+    (b"{}", -32600),
+    (br#"{"method":"x"}"#, -32600),
+    (br#"{"jsonrpc":2.0,"method":"x"}"#, -32600),
+    (br#"{"jsonrpc":"2.1","method":"x"}"#, -32600),
+    (br#"{"jsonrpc":"2.0","method":1}"#, -32600),
+    (br#"{"jsonrpc":"2.0","method":null,"id":1,"result":1}"#, -32600),
+    (br#"{"jsonrpc":"2.0","method":"x","params":"y"}"#, -32600),
+    (br#"{"jsonrpc":"2.0","id":1.5,"method":"x"}"#, -32600),
+    (br#"{"jsonrpc":"2.0","id":1.0,"method":"x"}"#, -32600),
+    (br#"{"jsonrpc":"2.0","id":null,"method":"x"}"#, -32600),
+    (br#"{"jsonrpc":"2.0","id":9223372036854775808,"method":"x"}"#, -32600),
+    (br#"{"jsonrpc":"2.0","id":1}"#, -32600),
+    (br#"{"jsonrpc":"2.0","result":1}"#, -32600),
+    (br#"{"jsonrpc":"2.0","id":1.0,"result":1}"#, -32600),
+    (br#"{"jsonrpc":"2.0","id":1,"result":1,"error":null}"#, -32600),
+    (br#"{"jsonrpc":"2.0","id":1,"error":null}"#, -32600),
+    (br#"{"jsonrpc":"2.0","id":1,"error":{"code":1}}"#, -32600),
+    (br#"{"jsonrpc":"2.0","id":1,"error":{"message":"no"}}"#, -32600),
+    (br#"{"jsonrpc":"2.0","id":1,"error":{"code":1.0,"message":"no"}}"#, -32600),
+    (br#"{"jsonrpc":"2.0","id":1,"error":{"code":1,"message":null}}"#, -32600),
+    (br#"{"jsonrpc":"2.0","id":true,"method":"x"}"#, -32600),
+];
+
+/// The code that the sender of a body is answered; 0 where it is a message.
+fn code_of(alloc: Global, body: &[u8]) -> Result<i32, NoMemory> {
+    match read_message(alloc, body) {
+        Ok(_) => Ok(0),
+        Err(Refusal::Coded(code)) => Ok(code),
+        Err(Refusal::NoMemory) => Err(NoMemory),
+    }
+}
+
+#[test]
+fn refuses_what_is_no_message(rt: HostRuntime) -> Result<(), Fail> {
+    for (body, code) in REFUSED {
+        assert_eq!(rt; code_of(rt.alloc(), body)?, code, "{body:?}");
+    }
+    assert_eq!(rt; PARSE_ERROR, -32700);
+    assert_eq!(rt; INVALID_REQUEST, -32600);
+    Ok(())
+}
+
+/// A front, and then so many times `more` and so many times `close`.
+fn grown(alloc: Global, front: &[u8], more: &[u8], close: &[u8], count: u32) -> Result<Text, NoMemory> {
+    let mut body = Text::new(alloc, front)?;
+    for _ in 0..count {
+        body = body.followed_by(more)?;
+    }
+    for _ in 0..count {
+        body = body.followed_by(close)?;
+    }
+    Ok(body)
+}
+
+#[test]
+fn limits_ids_and_nesting(rt: HostRuntime) -> Result<(), Fail> {
+    let alloc = rt.alloc();
+    let named = br#"{"jsonrpc":"2.0","method":"x","id":""#;
+    let nested = br#"{"jsonrpc":"2.0","method":"x","params":"#;
+    // A body counts as a level too.
+    for (length, named_code, depth, nested_code) in
+        [(1_024, 0, 126, 0), (1_025, -32600, 127, -32700)]
+    {
+        let body = grown(alloc, named, b"a", b"", length)?.followed_by(b"\"}")?;
+        assert_eq!(rt; code_of(alloc, body.as_slice())?, named_code, "{length}");
+        let body = grown(alloc, nested, b"[", b"]", depth)?.followed_by(b"}")?;
+        assert_eq!(rt; code_of(alloc, body.as_slice())?, nested_code, "{depth}");
+    }
+    Ok(())
+}
+
+#[test]
+fn writes_a_failure(rt: HostRuntime) -> Result<(), Fail> {
+    let alloc = rt.alloc();
+    let error = ErrorObject {
+        code: -32700,
+        message: Text::new(alloc, "parse error".as_bytes())?,
+    };
+    let message = Message::Response {
+        id: None,
+        answer: Err(error),
+    };
+    let body = write_message(alloc, &message)?;
+    let want = br#"{"error":{"code":-32700,"message":"parse error"},"id":null,"jsonrpc":"2.0"}"#;
+    assert_eq!(rt; body.as_slice(), want.as_slice());
+    Ok(())
+}
+
+#[test]
+fn keeps_open_ids_in_order(rt: HostRuntime) -> Result<(), Fail> {
+    let alloc = rt.alloc();
+    let seven = Id::Text(Name::new(alloc, b"7")?);
+    let mut open = OpenIds::new(alloc)?;
+    assert!(rt; open.first().is_none());
+    assert!(rt; open.begin(Id::Number(7)) == Ok(()));
+    assert!(rt; open.begin(seven.copy(alloc)?) == Ok(()));
+    assert!(rt; open.begin(Id::Number(-7).copy(alloc)?) == Ok(()));
+    assert!(rt; open.begin(Id::Number(7)) == Err(BeginFault::AlreadyOpen));
+    assert!(rt; open.first() == Some(&Id::Number(7)));
+    assert!(rt; !open.close(&Id::Number(8)));
+    assert!(rt; open.close(&Id::Number(7)));
+    assert!(rt; !open.is_open(&Id::Number(7)));
+    assert!(rt; open.is_open(&seven));
+    assert!(rt; open.first() == Some(&seven));
+    assert!(rt; open.begin(Id::Number(7)) == Ok(()));
+    assert!(rt; open.close(&seven));
+    assert!(rt; open.first() == Some(&Id::Number(-7)));
+    Ok(())
+}
