@@ -88,7 +88,8 @@ A cancel has to name it.")
   "The buffers of SESSION."
   (seq-filter
    (lambda (buffer)
-     (eq session (buffer-local-value 'oberon-bsp--session buffer)))
+     (and (buffer-file-name buffer)
+          (eq session (buffer-local-value 'oberon-bsp--session buffer))))
    (buffer-list)))
 
 (defun oberon-bsp--notify (session method &optional params)
@@ -618,7 +619,7 @@ Their columns are counted in its buffer, or in its text where it has none."
 
 (defun oberon-bsp--folder ()
   "The folder of the workspace file above this buffer's file, or nil."
-  (when buffer-file-name
+  (when (and buffer-file-name (not (file-remote-p buffer-file-name)))
     (locate-dominating-file
      (file-name-directory buffer-file-name)
      (lambda (folder)

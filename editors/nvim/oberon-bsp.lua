@@ -39,12 +39,31 @@ local function is_workspace_file(path)
   return name_of(path) == WORKSPACE_FILE
 end
 
+local function buffers_of(session)
+  local buffers = {}
+  for buffer, member in pairs(members) do
+    if member.session == session then
+      table.insert(buffers, buffer)
+    end
+  end
+  return buffers
+end
+
+-- The buffer of a file, where it is open. Its name may be spelled by way of a link.
+local function buffer_of(path)
+  for buffer, member in pairs(members) do
+    if member.path == path then
+      return buffer
+    end
+  end
+end
+
 -- ---- places
 
 -- The lines of a file, from its buffer where it is open.
 local function lines_of(path)
-  local buffer = vim.fn.bufnr('^' .. vim.fn.escape(path, '\\?*[]{},') .. '$')
-  if buffer ~= -1 and vim.api.nvim_buf_is_loaded(buffer) then
+  local buffer = buffer_of(path)
+  if buffer then
     return vim.api.nvim_buf_get_lines(buffer, 0, -1, false), vim.bo[buffer].bomb
   end
   local read, lines = pcall(vim.fn.readfile, path)
@@ -92,9 +111,12 @@ local SEVERITIES = { vim.diagnostic.severity.ERROR, vim.diagnostic.severity.WARN
 local function diagnostics_of(session, path)
   local found, seen = {}, {}
   for _, list in pairs(session.shown[path] or {}) do
-    local key = vim.json.encode(list)
-    if not seen[key] then
-      seen[key] = true
+    local is_new = true
+    for _, other in ipairs(seen) do
+      is_new = is_new and not vim.deep_equal(list, other)
+    end
+    if is_new then
+      table.insert(seen, list)
       vim.list_extend(found, list)
     end
   end
@@ -104,11 +126,14 @@ end
 -- The files of which a session shows diagnostics, in the order of their names.
 local function files_of(session)
   local files = {}
-  for path in pairs(session.shown) do
-    if #diagnostics_of(session, path) > 0 then
-      table.insert(files, path)
+  for path, lists in pairs(session.shown) do
+    for _, list in pairs(lists) do
+      if #list > 0 then
+        files[path] = true
+      end
     end
   end
+  files = vim.tbl_keys(files)
   table.sort(files)
   return files
 end
@@ -145,16 +170,6 @@ local function mark(buffer)
   end
 end
 
-local function buffers_of(session)
-  local buffers = {}
-  for buffer, member in pairs(members) do
-    if member.session == session then
-      table.insert(buffers, buffer)
-    end
-  end
-  return buffers
-end
-
 local function entries_of(session)
   local entries = {}
   for _, path in ipairs(files_of(session)) do
@@ -162,6 +177,7 @@ local function entries_of(session)
     for _, diagnostic in ipairs(diagnostics_of(session, path)) do
       local row, column = place(diagnostic.range.start)
       table.insert(entries, {
+        bufnr = buffer_of(path),
         filename = path,
         lnum = row + 1,
         col = column + 1,
@@ -243,7 +259,7 @@ end
 local function tell_unopened(session)
   local names = {}
   for _, path in ipairs(files_of(session)) do
-    if vim.fn.bufloaded(path) == 0 then
+    if not buffer_of(path) then
       table.insert(names, name_of(path))
     end
   end
