@@ -77,8 +77,9 @@ local function rows_of(lines)
   for row, line in ipairs(lines) do
     local from = 1
     repeat
-      table.insert(rows, { row = row - 1, before = from - 1, text = line:sub(from) })
-      from = (line:find('\r', from, true) or #line) + 1
+      local behind = (line:find('\r', from, true) or #line) + 1
+      table.insert(rows, { row = row - 1, before = from - 1, text = line:sub(from, behind - 1) })
+      from = behind
     until from > #line
   end
   return rows
@@ -104,8 +105,12 @@ end
 
 -- ---- what is shown
 
-local SEVERITIES = { vim.diagnostic.severity.ERROR, vim.diagnostic.severity.WARN, vim.diagnostic.severity.INFO,
-  vim.diagnostic.severity.HINT }
+local SEVERITIES = {
+  vim.diagnostic.severity.ERROR,
+  vim.diagnostic.severity.WARN,
+  vim.diagnostic.severity.INFO,
+  vim.diagnostic.severity.HINT,
+}
 
 -- What a session shows of a file. A file in two targets has a list for each, and equal lists are shown once.
 local function diagnostics_of(session, path)
@@ -270,14 +275,17 @@ end
 
 -- Compiles targets, and in place of a compile that isn't answered yet its targets too.
 local function compile(session, targets)
-  local compiled, earlier = {}, session.compile
-  if earlier then
+  local earlier = session.compile or { targets = {} }
+  if earlier.id then
     notify(session, '$/cancelRequest', { id = earlier.id })
-    vim.list_extend(compiled, earlier.targets)
   end
-  for _, target in ipairs(targets) do
-    if not vim.tbl_contains(vim.tbl_map(function(it) return it.uri end, compiled), target.uri) then
-      table.insert(compiled, { uri = target.uri })
+  local compiled, is_known = {}, {}
+  for _, some in ipairs { earlier.targets, targets } do
+    for _, target in ipairs(some) do
+      if not is_known[target.uri] then
+        is_known[target.uri] = true
+        table.insert(compiled, { uri = target.uri })
+      end
     end
   end
   local own = { targets = compiled }
@@ -512,9 +520,10 @@ local function leave(buffer)
   members[buffer] = nil
   vim.diagnostic.reset(namespace, buffer)
   vim.schedule(function()
-    if #buffers_of(member.session) == 0 then
-      sessions[member.session.root] = nil
-      stop(member.session)
+    local session = member.session
+    if #buffers_of(session) == 0 and sessions[session.root] == session then
+      sessions[session.root] = nil
+      stop(session)
     end
   end)
 end
@@ -560,7 +569,9 @@ end
 function M.setup(given)
   options = vim.tbl_extend('force', options, given or {})
   local command = vim.api.nvim_create_user_command
-  command('OberonBspCompile', with_session(compile_file), { desc = "Compile the targets of this buffer's file" })
+  command('OberonBspCompile', with_session(function(session, path)
+    (is_workspace_file(path) and compile_all or compile_file)(session, path)
+  end), { desc = "Compile the targets of this buffer's file, or of all open files in the workspace file's" })
   command('OberonBspRestart', with_session(start), { desc = "Start the server of this buffer's workspace anew" })
   command('OberonBspErrors', with_session(function(session)
     list(session, true)
