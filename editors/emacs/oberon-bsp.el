@@ -69,6 +69,9 @@ answered yet, as its id and its targets."
 (defvar-local oberon-bsp--session nil
   "The session of this buffer's file.")
 
+(defvar-local oberon-bsp--listed nil
+  "The session of which this buffer lists the errors.")
+
 (defclass oberon-bsp--connection (jsonrpc-process-connection)
   ((last-id :initform nil))
   :documentation "A connection that knows the id of its last request.
@@ -88,7 +91,8 @@ A cancel has to name it.")
   "The buffers of SESSION."
   (seq-filter
    (lambda (buffer)
-     (eq session (buffer-local-value 'oberon-bsp--session buffer)))
+     (and (buffer-file-name buffer)
+          (eq session (buffer-local-value 'oberon-bsp--session buffer))))
    (buffer-list)))
 
 (defun oberon-bsp--notify (session method &optional params)
@@ -322,9 +326,13 @@ Say how it ended, unless SESSION has left it."
 ;;;; Compiling
 
 (defun oberon-bsp-compile ()
-  "Compile the targets of this buffer's file."
+  "Compile the targets of this buffer's file.
+Where it has no module, compile those of all open files."
   (interactive)
-  (oberon-bsp--compile-file (oberon-bsp--this-session) (oberon-bsp--file)))
+  (let ((session (oberon-bsp--this-session)))
+    (if (or oberon-bsp--listed (oberon-bsp--is-workspace-file))
+        (oberon-bsp--compile-all session)
+      (oberon-bsp--compile-file session (oberon-bsp--file)))))
 
 (defun oberon-bsp--compile-all (session)
   "Compile the targets of all files of SESSION that are open."
@@ -526,9 +534,6 @@ take one way through it."
 
 ;;;; The list of errors
 
-(defvar-local oberon-bsp--listed nil
-  "The session of which this buffer lists the errors.")
-
 (defconst oberon-bsp--list-name "*oberon-bsp errors*")
 
 (defvar oberon-bsp-errors-mode-map
@@ -618,7 +623,7 @@ Their columns are counted in its buffer, or in its text where it has none."
 
 (defun oberon-bsp--folder ()
   "The folder of the workspace file above this buffer's file, or nil."
-  (when buffer-file-name
+  (when (and buffer-file-name (not (file-remote-p buffer-file-name)))
     (locate-dominating-file
      (file-name-directory buffer-file-name)
      (lambda (folder)
@@ -724,9 +729,11 @@ It is begun where there is none."
 
 (defun oberon-bsp--end-unused (session)
   "End SESSION where it has no buffer."
-  (unless (oberon-bsp--buffers session)
-    (remhash (oberon-bsp--session-root session) oberon-bsp--sessions)
-    (oberon-bsp--stop session)))
+  (let ((root (oberon-bsp--session-root session)))
+    (unless (or (oberon-bsp--buffers session)
+                (not (eq session (gethash root oberon-bsp--sessions))))
+      (remhash root oberon-bsp--sessions)
+      (oberon-bsp--stop session))))
 
 (defun oberon-bsp--saved ()
   "Compile the targets of this buffer's file.

@@ -39,12 +39,31 @@ local function is_workspace_file(path)
   return name_of(path) == WORKSPACE_FILE
 end
 
+local function buffers_of(session)
+  local buffers = {}
+  for buffer, member in pairs(members) do
+    if member.session == session then
+      table.insert(buffers, buffer)
+    end
+  end
+  return buffers
+end
+
+-- The buffer of a file, where it is open. Its name may be spelled by way of a link.
+local function buffer_of(path)
+  for buffer, member in pairs(members) do
+    if member.path == path then
+      return buffer
+    end
+  end
+end
+
 -- ---- places
 
 -- The lines of a file, from its buffer where it is open.
 local function lines_of(path)
-  local buffer = vim.fn.bufnr('^' .. vim.fn.escape(path, '\\?*[]{},') .. '$')
-  if buffer ~= -1 and vim.api.nvim_buf_is_loaded(buffer) then
+  local buffer = buffer_of(path)
+  if buffer then
     return vim.api.nvim_buf_get_lines(buffer, 0, -1, false), vim.bo[buffer].bomb
   end
   local read, lines = pcall(vim.fn.readfile, path)
@@ -58,8 +77,9 @@ local function rows_of(lines)
   for row, line in ipairs(lines) do
     local from = 1
     repeat
-      table.insert(rows, { row = row - 1, before = from - 1, text = line:sub(from) })
-      from = (line:find('\r', from, true) or #line) + 1
+      local behind = (line:find('\r', from, true) or #line) + 1
+      table.insert(rows, { row = row - 1, before = from - 1, text = line:sub(from, behind - 1) })
+      from = behind
     until from > #line
   end
   return rows
@@ -85,16 +105,23 @@ end
 
 -- ---- what is shown
 
-local SEVERITIES = { vim.diagnostic.severity.ERROR, vim.diagnostic.severity.WARN, vim.diagnostic.severity.INFO,
-  vim.diagnostic.severity.HINT }
+local SEVERITIES = {
+  vim.diagnostic.severity.ERROR,
+  vim.diagnostic.severity.WARN,
+  vim.diagnostic.severity.INFO,
+  vim.diagnostic.severity.HINT,
+}
 
 -- What a session shows of a file. A file in two targets has a list for each, and equal lists are shown once.
 local function diagnostics_of(session, path)
   local found, seen = {}, {}
   for _, list in pairs(session.shown[path] or {}) do
-    local key = vim.json.encode(list)
-    if not seen[key] then
-      seen[key] = true
+    local is_new = true
+    for _, other in ipairs(seen) do
+      is_new = is_new and not vim.deep_equal(list, other)
+    end
+    if is_new then
+      table.insert(seen, list)
       vim.list_extend(found, list)
     end
   end
@@ -104,11 +131,14 @@ end
 -- The files of which a session shows diagnostics, in the order of their names.
 local function files_of(session)
   local files = {}
-  for path in pairs(session.shown) do
-    if #diagnostics_of(session, path) > 0 then
-      table.insert(files, path)
+  for path, lists in pairs(session.shown) do
+    for _, list in pairs(lists) do
+      if #list > 0 then
+        files[path] = true
+      end
     end
   end
+  files = vim.tbl_keys(files)
   table.sort(files)
   return files
 end
@@ -145,16 +175,6 @@ local function mark(buffer)
   end
 end
 
-local function buffers_of(session)
-  local buffers = {}
-  for buffer, member in pairs(members) do
-    if member.session == session then
-      table.insert(buffers, buffer)
-    end
-  end
-  return buffers
-end
-
 local function entries_of(session)
   local entries = {}
   for _, path in ipairs(files_of(session)) do
@@ -162,6 +182,7 @@ local function entries_of(session)
     for _, diagnostic in ipairs(diagnostics_of(session, path)) do
       local row, column = place(diagnostic.range.start)
       table.insert(entries, {
+        bufnr = buffer_of(path),
         filename = path,
         lnum = row + 1,
         col = column + 1,
@@ -243,7 +264,7 @@ end
 local function tell_unopened(session)
   local names = {}
   for _, path in ipairs(files_of(session)) do
-    if vim.fn.bufloaded(path) == 0 then
+    if not buffer_of(path) then
       table.insert(names, name_of(path))
     end
   end
@@ -254,14 +275,17 @@ end
 
 -- Compiles targets, and in place of a compile that isn't answered yet its targets too.
 local function compile(session, targets)
-  local compiled, earlier = {}, session.compile
-  if earlier then
+  local earlier = session.compile or { targets = {} }
+  if earlier.id then
     notify(session, '$/cancelRequest', { id = earlier.id })
-    vim.list_extend(compiled, earlier.targets)
   end
-  for _, target in ipairs(targets) do
-    if not vim.tbl_contains(vim.tbl_map(function(it) return it.uri end, compiled), target.uri) then
-      table.insert(compiled, { uri = target.uri })
+  local compiled, is_known = {}, {}
+  for _, some in ipairs { earlier.targets, targets } do
+    for _, target in ipairs(some) do
+      if not is_known[target.uri] then
+        is_known[target.uri] = true
+        table.insert(compiled, { uri = target.uri })
+      end
     end
   end
   local own = { targets = compiled }
@@ -496,9 +520,10 @@ local function leave(buffer)
   members[buffer] = nil
   vim.diagnostic.reset(namespace, buffer)
   vim.schedule(function()
-    if #buffers_of(member.session) == 0 then
-      sessions[member.session.root] = nil
-      stop(member.session)
+    local session = member.session
+    if #buffers_of(session) == 0 and sessions[session.root] == session then
+      sessions[session.root] = nil
+      stop(session)
     end
   end)
 end
@@ -544,7 +569,9 @@ end
 function M.setup(given)
   options = vim.tbl_extend('force', options, given or {})
   local command = vim.api.nvim_create_user_command
-  command('OberonBspCompile', with_session(compile_file), { desc = "Compile the targets of this buffer's file" })
+  command('OberonBspCompile', with_session(function(session, path)
+    (is_workspace_file(path) and compile_all or compile_file)(session, path)
+  end), { desc = "Compile the targets of this buffer's file, or of all open files in the workspace file's" })
   command('OberonBspRestart', with_session(start), { desc = "Start the server of this buffer's workspace anew" })
   command('OberonBspErrors', with_session(function(session)
     list(session, true)
