@@ -8,7 +8,7 @@ use Rattle.bsp_edge.proofs.HandLaws.{hands_append, hands_nothing}
 use Rattle.bsp_edge.proofs.StreamLaws.{gives_append, gives_nothing}
 use Rattle.rpc_peer.specs.Said.{Said}
 use Rattle.session_law.specs.declared.InputEnd.{InputEnd}
-use Rattle.session_law.specs.Lawful.{text_of}
+use Rattle.session_law.specs.IsFramed.{text_of}
 use Rattle.session_law.specs.Order.{Event, take, ends, hand, write, takes_of, writes_of, hands_of, failures_of, end_of}
 use Rattle.session_core.specs.Standing.{onto}
 use Rattle.session_core.proofs.StandingLaws.{writes_of-onto, hands_of-onto, failures_of-onto}

@@ -8,14 +8,14 @@ use Rattle.rpc_frame.proofs.DamageLaws.{damage_behind}
 use Rattle.rpc_frame.proofs.FrameLaws.{frames_apart, nil_no_frame, broken_rest, broken_not_sound, sound_front}
 use Rattle.session_law.specs.declared.InputEnd.{InputEnd}
 use Rattle.session_law.specs.declared.InputEnd.TheVariants as input_end
-use Rattle.session_law.specs.Lawful.{IsSettled}
-use Rattle.session_law.specs.Order.{Event, ends, write, takes_of}
-use Rattle.session_law.specs.Past.{closed_by, end_status, open_after}
-use Rattle.rpc_peer.specs.Said.{Said, request, notification, result, failure}
+use Rattle.session_law.specs.AnswersAll.{IsSettled}
+use Rattle.session_law.specs.Order.{Event, ends, takes_of}
+use Rattle.session_law.specs.Past.{end_status}
+use Rattle.rpc_peer.specs.Said.{Said}
 use Rattle.session_core.specs.Standing.{StandsFor, Knows, onto, IsQuiet, IsAlive}
 use Rattle.session_core.specs.State.{state_of}
 use Rattle.session_core.specs.declared.session.Core.{Core}
-use Rattle.session_core.proofs.StandingLaws.{stood_lawful, known, settled, takes_of-onto, end_of-onto, status_after-onto, status_within}
+use Rattle.session_core.proofs.StandingLaws.{none_open, stood_lawful, known, settled, takes_of-onto, end_of-onto, status_after-onto, status_within}
 use Rattle.bsp_cli.specs.Progress.{Progress, Stopped, EndsBy, IsOut, Finishes, ended, halted, HasEnded, IsReady, fed}
 use Rattle.bsp_cli.specs.Session.{Change, TreeChange, EndsFor, HasNoMore, IsDamage, Session}
 use Rattle.bsp_cli.specs.Outside.{Told, told}
@@ -53,20 +53,6 @@ status_small : (how : InputEnd) → end_status how ≤ 3
 status_small input_end.Border = lit≤ tt
 status_small input_end.Damaged = lit≤ tt
 status_small input_end.Failed = lit≤ tt
-
--- ---- nothing is owed at an end
-
-closed_nothing : (m : Said) → closed_by m [] ≡ []
-closed_nothing (request id method params) = refl
-closed_nothing (notification method params) = refl
-closed_nothing (result None value) = refl
-closed_nothing (result (Some id) value) = refl
-closed_nothing (failure None code text) = refl
-closed_nothing (failure (Some id) code text) = refl
-
-open_onto : (messages : List Said) (order : List Event) → open_after order ≡ [] → open_after (onto messages order) ≡ []
-open_onto [] order none = none
-open_onto (m ∷ messages) order none = open_onto messages (write m ∷ order) (ap (closed_by m) none ∙ closed_nothing m)
 
 -- ---- the three ways
 
@@ -159,7 +145,7 @@ module _ (left0 left : Option (List ℕ)) (start middle : Told) (given : Option 
   ended_settled : (messages : List Said) → Knows (state_of d) (onto messages (ends how ∷ so.order)) → IsSettled (onto messages (ends how ∷ so.order))
   ended_settled messages knows =
       let before = settled c so.order ready.free (known c so.order ready.quiet ready.alive so.stands) in
-      record { requests = open_onto messages (ends how ∷ so.order) before.requests; nulls = knows.nulls_are }
+      record { requests = none_open messages how so.order before.requests; nulls = knows.nulls_are }
 
   ends_well : Acts c d (ends how) middle.given given → IsQuiet d → IsAlive d
       → Session (input_change left0 left in_old in_new) (tree_change start now) (output_change start now out_old out_new) (end_status how) (fed stream) damage

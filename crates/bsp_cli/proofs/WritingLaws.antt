@@ -7,7 +7,8 @@ use Rattle.bsp_edge.specs.Writing.{TookFront}
 use Rattle.bsp_edge.proofs.HandLaws.{hands_nothing}
 use Rattle.bsp_edge.proofs.StreamLaws.{gives_append, gives_nothing}
 use Rattle.rpc_peer.specs.Said.{Said}
-use Rattle.session_law.specs.Lawful.{IsFramed, Lawful, text_of}
+use Rattle.session_law.specs.IsFramed.{IsFramed, text_of}
+use Rattle.session_law.specs.Lawful.{Lawful}
 use Rattle.session_law.specs.Order.{Entries, Event, take as takes_body, hand, write, takes_of, writes_of, hands_of, failures_of, end_of}
 use Rattle.session_core.specs.Standing.{StandsFor, onto}
 use Rattle.session_core.specs.declared.session.Core.{Core}

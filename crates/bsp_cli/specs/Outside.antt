@@ -2,7 +2,7 @@
 use Rattle.std.specs.Prelude.{◌++◌, ℕ, List, flat_map, Option}
 use Rattle.bsp_edge.specs.Handing.{Entries, Hands}
 use Rattle.bsp_edge.specs.Streams.{Gives}
-use Rattle.session_law.specs.Lawful.{text_of}
+use Rattle.session_law.specs.IsFramed.{text_of}
 use Rattle.session_law.specs.Order.{Event, writes_of, hands_of, failures_of}
 use Rattle.bsp_cli.specs.Session.{RoseBy}
 

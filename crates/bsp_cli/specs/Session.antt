@@ -13,7 +13,9 @@ use Rattle.rpc_frame.specs.Damages.{DamageAt}
 use Rattle.rpc_peer.specs.Said.{Said}
 use Rattle.session_law.specs.declared.InputEnd.{InputEnd}
 use Rattle.session_law.specs.declared.InputEnd.TheVariants.{Border, Damaged, Failed}
-use Rattle.session_law.specs.Lawful.{Lawful, IsFramed, IsSettled, text_of}
+use Rattle.session_law.specs.AnswersAll.{IsSettled}
+use Rattle.session_law.specs.IsFramed.{IsFramed, text_of}
+use Rattle.session_law.specs.Lawful.{Lawful}
 use Rattle.session_law.specs.Order.{Event, takes_of, writes_of, hands_of, failures_of, end_of}
 use Rattle.session_law.specs.Past.{status_after}
 

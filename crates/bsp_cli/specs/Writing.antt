@@ -2,7 +2,8 @@
 use Rattle.std.specs.Prelude.{◌≡◌, ◌≢◌, ◌++◌, ◌<◌, ℕ, List, [], ◌∷◌, length, flat_map, Option, None, Result, Ok, Err}
 use Rattle.bsp_edge.specs.Streams.{Gives}
 use Rattle.rpc_peer.specs.Said.{Said}
-use Rattle.session_law.specs.Lawful.{Lawful, text_of}
+use Rattle.session_law.specs.IsFramed.{text_of}
+use Rattle.session_law.specs.Lawful.{Lawful}
 use Rattle.session_law.specs.Order.{Event, takes_of, end_of}
 use Rattle.session_core.specs.Standing.{StandsFor, onto}
 use Rattle.session_core.specs.declared.session.Core.{Core}

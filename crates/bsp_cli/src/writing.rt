@@ -2,7 +2,7 @@ ghost use Rattle.std.specs.Prelude.{◌≡◌, ◌<◌, ◌≤◌, List, length,
 ghost use Rattle.bsp_edge.specs.Faults.{Rose};
 ghost use Rattle.bsp_edge.specs.Streams.{Gives};
 ghost use Rattle.rpc_peer.specs.Said.{body_of, said};
-ghost use Rattle.session_law.specs.Lawful.{IsFramed, text_of};
+ghost use Rattle.session_law.specs.IsFramed.{IsFramed, text_of};
 ghost use Rattle.session_law.specs.Order.{Event};
 ghost use Rattle.session_core.specs.Standing.{StandsFor, IsAlive, IsQuiet};
 ghost use Rattle.session_core.specs.State.{state_of};

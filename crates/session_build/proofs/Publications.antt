@@ -1,10 +1,10 @@
 -- What a client shows once publications were written as messages.
-use Rattle.std.proofs.Common.{◌≡◌, ◌≢◌, ◌+◌, ◌<◌, ◌≤◌, ◌++◌, ◌||◌, ◌&&◌, ℕ, List, [], ◌∷◌, length, get_or, take, map, Bool, true, false, Option, Some, None, refl, sym, ap, subst, ◌∙◌, arith, length-append}
+use Rattle.std.proofs.Common.{◌≡◌, ◌≢◌, ◌+◌, ◌<◌, ◌≤◌, ◌++◌, ◌||◌, ◌&&◌, ℕ, List, [], ◌∷◌, length, get_or, take, map, Bool, true, false, Option, Some, None, refl, sym, ap, subst, ◌∙◌, arith, length-append, true≢false}
 use Rattle.std.specs.Prelude.{codes, if◌then◌else◌}
-use Rattle.std.specs.List.{All, AllPairs, list_any}
+use Rattle.std.specs.List.{All, AllPairs, Contains, list_any}
 use Rattle.std.specs.Str.{bytes_eq}
 use Rattle.std.proofs.lemmas.List.{map-append, get_or-map, get_or_default, get_or-take, length-map, length-take-le}
-use Rattle.std.proofs.lemmas.List.Elements.{All-nil, All-head, All-tail, All-cons, All-append, All-push}
+use Rattle.std.proofs.lemmas.List.Elements.{All-nil, All-head, All-tail, All-cons, All-append, All-push, All-contains}
 use Rattle.std.proofs.lemmas.List.Folds.{list_any-append}
 use Rattle.std.proofs.lemmas.List.Sums.{fold-append}
 use Rattle.std.proofs.lemmas.Slice.Eq.{bytes_eq-Decides}
@@ -25,8 +25,8 @@ use Rattle.ob_text.specs.declared.held.Held.{Held}
 use Rattle.ob_text.specs.declared.diagnostic.Diagnostic.{Diagnostic}
 use Rattle.oberon_check.specs.Diagnosed.{Diagnosed}
 use Rattle.rpc_peer.specs.Said.{Said, notification, body_of}
-use Rattle.session_law.specs.Builds.{Finding, IsFound, Publishes, PublishesAll, Shows, handed_at, has_error, is_error_severity, none, one_more, publication_in, publication_said, published_if, shown_by, table_with}
-use Rattle.session_law.specs.Lawful.{IsFramed}
+use Rattle.session_law.specs.Builds.{Finding, IsFound, Publishes, PublishesSome, Shows, handed_at, has_error, is_error_severity, none, one_more, publication_in, publication_said, published_if, shown_by, table_with}
+use Rattle.session_law.specs.IsFramed.{IsFramed}
 use Rattle.session_law.specs.Order.{Entries}
 use Rattle.session_law.specs.declared.Place.{Place}
 use Rattle.session_build.specs.Publishing.{IsNotice, IsPublished, IsPublishedOne, finding_of}
@@ -84,6 +84,17 @@ places_all P (f ∷ findings) places is all =
     All-cons (λ (f : Finding). P f.place) f findings (All-head P f.place (map (λ (f : Finding). f.place) findings) all')
     (places_all P findings (map (λ (f : Finding). f.place) findings) refl (All-tail P f.place (map (λ (f : Finding). f.place) findings) all'))
 
+at_itself : (a : Address) → is_at a a.document a.target ≡ true
+at_itself a = ap (λ x. x && bytes_eq a.target a.target) ((bytes_eq-Decides a.document a.document).1 refl) ∙ (bytes_eq-Decides a.target a.target).1 refl
+
+-- a document that is apart from those that were published isn't one of them
+fresh : (place : Place) (findings : List Finding) (finding : Finding) → finding.place ≡ place → All (λ (f : Finding). IsApart place f.place) findings → ¬ (Contains findings finding)
+fresh place findings finding is apart there =
+    let own : IsApart place finding.place = All-contains (λ (f : Finding). IsApart place f.place) findings finding apart there in
+    let same : is_at place.address place.address.document place.address.target ≡ false =
+    subst (λ (p : Place). IsApart place p) is own in
+    true≢false (sym (at_itself place.address) ∙ same)
+
 pub none_published : (table : Table) (origin : Option (List ℕ)) (entries : Entries) → IsPublished table table [] origin entries [] false
 none_published table origin entries = record {
   findings = [];
@@ -108,8 +119,8 @@ one_published old mid new places place origin entries held before after failed o
       of_places = map-append (λ (f : Finding). f.place) all.findings (finding ∷ []) ∙ ap (λ (ps : List Place). ps ++ place ∷ []) all.of_places;
       found = All-push (IsFound entries) all.findings finding all.found (subst (λ (h : Held). Diagnosed h one.list) is one.found);
       publishes =
-          subst (PublishesAll old origin (all.findings ++ finding ∷ [])) (sym one.messages)
-          (one_more finding one.own all.publishes (publishes_same mid (table_with before old) origin finding one.own all.kept one.publishes));
+          subst (PublishesSome old origin (all.findings ++ finding ∷ [])) (sym one.messages)
+          (one_more finding one.own all.publishes (fresh place all.findings finding refl (places_all (IsApart place) all.findings places all.of_places apart)) (publishes_same mid (table_with before old) origin finding one.own all.kept one.publishes));
       framed = subst (All IsFramed) (sym one.messages) (All-append IsFramed before one.own all.framed one.framed);
       notices = subst (All IsNotice) (sym one.messages) (All-append IsNotice before one.own all.notices one.notices);
       kept = λ document target.
@@ -142,9 +153,6 @@ apart_at a b differs = by_tests (bytes_eq a.document b.document) (bytes_eq a.tar
     by_tests true false h k = ap (λ x. x && bytes_eq a.target b.target) h ∙ k
     by_tests false t h k = ap (λ x. x && bytes_eq a.target b.target) h
 
-at_itself : (a : Address) → is_at a a.document a.target ≡ true
-at_itself a = ap (λ x. x && bytes_eq a.target a.target) ((bytes_eq-Decides a.document a.document).1 refl) ∙ (bytes_eq-Decides a.target a.target).1 refl
-
 -- a document is apart from each before it
 pub apart_before : (places : List Place) (i : ℕ) (place : Place) → i < length places → place ≡ get_or places i place → AllPairs ◌≢◌ (map (λ (p : Place). p.address) places)
     → All (IsApart place) (take i places)
@@ -164,7 +172,7 @@ apart_before places i place h e distinct k d k_in =
 
 notices_of : (ps : List PublishDiagnosticsParams) → All IsNotice (map publication_said ps)
 notices_of [] = All-nil IsNotice
-notices_of (p ∷ ps) = All-cons IsNotice (publication_said p) (map publication_said ps) tt (notices_of ps)
+notices_of (p ∷ ps) = All-cons IsNotice (publication_said p) (map publication_said ps) refl (notices_of ps)
 
 pub one_shown : (old new : Table) (place : Place) (origin : Option (List ℕ)) (held : Held) (before after : List Said) (list : List Diagnostic) (ps : List PublishDiagnosticsParams) (failed : Bool)
     → Diagnosed held list

@@ -1,30 +1,27 @@
 -- What the publishing of a build does.
-use Rattle.std.specs.Prelude.{◌≡◌, ◌++◌, ℕ, List, map, Bool, false, Option}
+use Rattle.std.specs.Prelude.{◌≡◌, ◌++◌, ℕ, List, map, Bool, true, false, Option}
 use Rattle.std.specs.List.{All, list_any}
 use Rattle.bsp_records.specs.Table.{Table}
 use Rattle.ob_text.specs.declared.diagnostic.Diagnostic.{Diagnostic}
 use Rattle.ob_text.specs.declared.held.Held.{Held}
 use Rattle.oberon_check.specs.Diagnosed.{Diagnosed}
-use Rattle.rpc_peer.specs.Said.{Said, request, notification, result, failure}
-use Rattle.session_law.specs.Builds.{Finding, IsFound, Publishes, PublishesAll, Shows, has_error, table_with}
-use Rattle.session_law.specs.Lawful.{IsFramed}
+use Rattle.rpc_peer.specs.Said.{Said}
+use Rattle.session_law.specs.Builds.{Finding, IsFound, Publishes, PublishesSome, Shows, has_error, is_publication, table_with}
+use Rattle.session_law.specs.IsFramed.{IsFramed}
 use Rattle.session_law.specs.Order.{Entries}
 use Rattle.session_law.specs.declared.Place.{Place}
 use Rattle.task_stream.specs.Showing.{is_at}
 
 -- the message publishes something
 abbrev pub IsNotice : Said → Type 0
-IsNotice (notification method params) = Unit {0}
-IsNotice (request id method params) = ⊥
-IsNotice (result id value) = ⊥
-IsNotice (failure id code text) = ⊥
+IsNotice m = is_publication m ≡ true
 
 pub record IsPublished (old new : Table) (places : List Place) (origin : Option (List ℕ)) (entries : Entries) (messages : List Said) (failed : Bool) : Type 0 where
   pub findings : List Finding
   -- each document with its diagnostics, in order
   pub of_places : map (λ finding. finding.place) findings ≡ places
   pub found : All (IsFound entries) findings
-  pub publishes : PublishesAll old origin findings messages
+  pub publishes : PublishesSome old origin findings messages
   pub framed : All IsFramed messages
   pub notices : All IsNotice messages
   -- the table that is kept is the one that a client has, and it shows each list

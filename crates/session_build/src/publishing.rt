@@ -10,7 +10,7 @@ ghost use Rattle.ob_text.specs.Code.{severity_of};
 ghost use Rattle.oberon_check.specs.Diagnosed.{Diagnosed};
 ghost use Rattle.rpc_peer.specs.Said.{said};
 ghost use Rattle.session_law.specs.Builds.{is_error_severity, publication_said};
-ghost use Rattle.session_law.specs.Lawful.{IsFramed};
+ghost use Rattle.session_law.specs.IsFramed.{IsFramed};
 ghost use Rattle.session_build.specs.Handed.{held_or_absent};
 ghost use Rattle.session_build.specs.Placed.{IsPlain};
 ghost use Rattle.session_build.specs.Publishing.{IsPublished, IsPublishedOne};

@@ -22,7 +22,7 @@ use Rattle.bsp_records.specs.ShortAnswers.{answer_limit}
 use Rattle.bsp_records.proofs.ShortLaws.{length_member, text_short}
 use Rattle.bsp_records.specs.declared.kinds.TheConstants.{ORIGIN_LIMIT}
 use Rattle.session_law.specs.Builds.{build_said, status_by}
-use Rattle.session_law.specs.Lawful.{IsFramed}
+use Rattle.session_law.specs.IsFramed.{IsFramed}
 use Rattle.session_law.specs.Methods.{initialize_result, null_message, kind_text, name_behind}
 use Rattle.rpc_peer.specs.Meaning.{parse_error}
 use Rattle.session_core.specs.Judging.{answer_to, code_of, message_of, IsPrinted, IsSaid}

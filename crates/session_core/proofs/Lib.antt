@@ -5,3 +5,4 @@ pub mod Owing
 pub mod Publications
 pub mod StandingLaws
 pub mod Steps
+pub mod Writes

@@ -1,56 +1,93 @@
 -- What the core does in one step, in the words of the law.
-use Rattle.std.proofs.Common.{◌≡◌, ◌==◌, ◌||◌, ℕ, ℤ, List, [], ◌∷◌, Bool, true, false, Option, Some, None, refl, ap, sym, ◌∙◌, subst}
-use Rattle.std.proofs.lemmas.Bool.{eq-eqb}
-use Rattle.std.proofs.lemmas.Bool.Decides.{Decides-int_eq}
-use Rattle.std.specs.Cmp.Lexicographic.{pointwise}
+use Rattle.std.proofs.Common.{◌≡◌, ◌||◌, ℕ, ℤ, List, [], ◌∷◌, Bool, true, false, Option, Some, None, refl, ap, sym, ◌∙◌, subst}
 use Rattle.ob_text.specs.declared.held.Held.{Held}
 use Rattle.serde_json.specs.Data.{Data, null}
 use Rattle.rpc_peer.specs.declared.message.Id.{Id}
-use Rattle.rpc_peer.specs.declared.message.Id.TheVariants.{Number, Text}
-use Rattle.rpc_peer.specs.OpenIds.{same_id}
 use Rattle.rpc_peer.specs.Said.{result, failure, IsId}
-use Rattle.session_law.specs.Lawful.{Lawful, IsFramed, IsRefused}
-use Rattle.session_law.specs.Methods.{Verdict, asking, opening, building, built, answering, closing, refusal, initialize_result}
+use Rattle.session_law.specs.IsFramed.{IsFramed}
+use Rattle.session_law.specs.Lawful.{Lawful, WriteAllowed}
+use Rattle.session_law.specs.Methods.{Verdict, asking, opening, queued, building, built, answering, closing, refusal, initialize_result}
 use Rattle.session_law.specs.Order.{Event, write}
-use Rattle.session_law.specs.Questions.{Question, IsAnswer}
-use Rattle.session_law.specs.Past.{Asked, WantedBy, active_as, space_in, open_after, force_after, closed_after, nulls_after, status_after, table_after}
+use Rattle.session_law.specs.Past.{after, closes, force_by, space_in}
+use Rattle.session_law.specs.RefusesExactly.{IsRefused}
 use Rattle.session_core.specs.Acting.{answer_unread, answered, paths_in}
 use Rattle.session_core.specs.Judging.{answer_to, code_of, message_of, Fits, IsPlanOf, IsReply}
 use Rattle.session_core.specs.Plans.{Plan, build_in}
-use Rattle.session_core.specs.State.{Base, State, building_in, owed, workspace_need}
-use Rattle.session_core.specs.Standing.{Keeps, EachId, AreIn}
+use Rattle.session_core.specs.State.{Base, Standing, State, building_in, owed, workspace_need}
+use Rattle.session_core.specs.Standing.{Keeps, AreIn, AreOpen, WantsOf}
 use Rattle.session_core.specs.declared.awaiting.Awaiting.TheVariants as awaits
 use Rattle.session_core.specs.declared.awaiting.Need.TheVariants as needs
 use Rattle.session_core.specs.declared.verdicts.Answer.{Answer}
 use Rattle.session_core.specs.declared.verdicts.Answer.TheVariants as answers
+use Rattle.session_core.proofs.Writes.{allowed_null, allowed_refusal, allowed_result, is_up, judged_so, same_id_refl}
 use Rattle.target_graph.specs.Faults.{Accepted, targets_in}
 use Rattle.target_graph.specs.Workspace.{Space}
 
-same_text : (t : List ℕ) → pointwise ◌==◌ t t ≡ true
-same_text [] = refl
-same_text (b ∷ t) = rw (eq-eqb b b refl) (same_text t)
-
-pub same_id_refl : (id : Id) → same_id id id ≡ true
-same_id_refl (Number n) = (Decides-int_eq n n).1 refl
-same_id_refl (Text t) = same_text t
-
 -- what is known of an order that owes these answers, behind a take, a hand or the end of the input
-pub record Owes (base : Base) (status : Option ℕ) (requests : List Asked) (nulls : List ℤ) (past : List Event) : Type 0 where
+pub record Owes (base : Base) (status : Option ℕ) (standing : Option Standing) (nulls : List ℤ) (past : List Event) : Type 0 where
   pub lawful : Lawful past
-  pub force_is : force_after past ≡ base.force
-  pub closed_is : closed_after past ≡ base.closed
-  pub table_is : table_after past ≡ base.table
-  pub status_is : status_after past ≡ status
-  pub requests_are : open_after past ≡ requests
-  pub nulls_are : nulls_after past ≡ nulls
+  pub force_is : (after past).force ≡ base.force
+  pub closed_is : (after past).closed ≡ base.closed
+  pub table_is : (after past).table ≡ base.table
+  pub status_is : (after past).status ≡ status
+  pub requests_are : AreOpen (after past).requests (after past).force standing
+  pub nulls_are : (after past).nulls ≡ nulls
 
 same_or : (b : Bool) → (b || false) ≡ b
 same_or true = refl
 same_or false = refl
 
+true_or : (b : Bool) → (b || true) ≡ true
+true_or true = refl
+true_or false = refl
+
 -- nothing waits, and nothing is needed
 abbrev pub idle : Base → Option ℕ → State
 idle base status = record { base = base; status = status; awaiting = None; need = None }
+
+-- ---- one response closes the request that is open
+
+-- what is kept once a request was answered with a result that was owed this
+abbrev pub granted : Verdict → Base → Base
+granted v base = record base { force = force_by (Some v) base.force; closed = base.closed || closes (Some v) }
+
+pub by_result : (id : Id) (v : Verdict) (value : Data) (base : Base) (status : Option ℕ) (past : List Event) → is_up v ≡ false → Owes base status (owed id v) [] past
+    → WriteAllowed (after past) (result (Some id) value) → Keeps false (idle (granted v base) status) (write (result (Some id) value) ∷ past)
+by_result id v value base status past other o allowed =
+    let only = o.requests_are in
+    let same = same_id_refl id in
+    let judged = judged_so (after past).force only.judged v only.stands other in
+    record {
+      lawful = record { each = (allowed, o.lawful.each) };
+      knows = λ _. record {
+        force_is = rw (only.are, same, judged, o.force_is) refl;
+        closed_is = rw (only.are, same, judged, o.closed_is) refl;
+        table_is = o.table_is;
+        status_is = o.status_is;
+        requests_are = rw (only.are, same) refl;
+        nulls_are = o.nulls_are;
+        need_is = tt;
+        plan_is = tt;
+      };
+    }
+
+gives_refusal : (id : Id) (v : Verdict) (code : ℤ) (text : List ℕ) (base : Base) (status : Option ℕ) (past : List Event) → Owes base status (owed id v) [] past
+    → IsRefused (Some v) code text → IsFramed (failure (Some id) code text) → Keeps false (idle base status) (write (failure (Some id) code text) ∷ past)
+gives_refusal id v code text base status past o refused framed =
+    let only = o.requests_are in
+    record {
+      lawful = record { each = (allowed_refusal (after past) id v only code text refused framed, o.lawful.each) };
+      knows = λ _. record {
+        force_is = o.force_is;
+        closed_is = rw (o.closed_is) (same_or base.closed);
+        table_is = o.table_is;
+        status_is = o.status_is;
+        requests_are = rw (only.are, same_id_refl id) refl;
+        nulls_are = o.nulls_are;
+        need_is = tt;
+        plan_is = tt;
+      };
+    }
 
 -- ---- a request is given what it is owed
 
@@ -64,139 +101,33 @@ gives_opening : (id : Id) (root : List ℕ) (file : Held) (space : Space) (base 
     → Owes base status (owed id (opening root file)) [] past → IsFramed (result (Some id) initialize_result)
     → Keeps false (idle (record base { force = Some space }) status) (write (result (Some id) initialize_result) ∷ past)
 gives_opening id root file space base status past accepted o framed =
-    let same = same_id_refl id in
-    record {
-      lawful = record {
-        each = (
-          record {
-            framed = framed;
-            once = rw (o.requests_are, same);
-            exact = rw (o.requests_are, same) (record { space = space; accepted = accepted }, refl);
-            in_order = rw (o.requests_are) tt;
-            shows = rw (o.requests_are) tt;
-          },
-          o.lawful.each,
-        );
-      };
-      knows = λ _. record {
-        force_is = rw (o.requests_are, same) (space_is root file space accepted);
-        closed_is = rw (o.closed_is, o.requests_are, same) (same_or base.closed);
-        table_is = o.table_is;
-        status_is = o.status_is;
-        requests_are = rw (o.requests_are, same);
-        nulls_are = o.nulls_are;
-        ids = tt;
-        need_is = tt;
-        plan_is = tt;
-      };
-    }
-
-true_or : (b : Bool) → (b || true) ≡ true
-true_or true = refl
-true_or false = refl
+    let allowed = allowed_result (after past) id (opening root file) o.requests_are initialize_result (record { space = space; accepted = accepted }, refl) refl framed in
+    subst (λ closed. Keeps false (idle (record base { force = Some space; closed = closed }) status) (write (result (Some id) initialize_result) ∷ past)) (same_or base.closed)
+    (subst (λ force. Keeps false (idle (record base { force = force; closed = base.closed || false }) status) (write (result (Some id) initialize_result) ∷ past)) (space_is root file space accepted)
+    (by_result id (opening root file) initialize_result base status past refl o allowed))
 
 -- a shutdown closes it
 gives_closing : (id : Id) (base : Base) (status : Option ℕ) (past : List Event) → Owes base status (owed id closing) [] past → IsFramed (result (Some id) null)
     → Keeps false (idle (record base { closed = true }) status) (write (result (Some id) null) ∷ past)
 gives_closing id base status past o framed =
-    let same = same_id_refl id in
-    record {
-      lawful = record {
-        each = (
-          record {
-            framed = framed;
-            once = rw (o.requests_are, same);
-            exact = rw (o.requests_are, same);
-            in_order = rw (o.requests_are) tt;
-            shows = rw (o.requests_are) tt;
-          },
-          o.lawful.each,
-        );
-      };
-      knows = λ _. record {
-        force_is = rw (o.requests_are, same) o.force_is;
-        closed_is = rw (o.requests_are, same) (true_or (closed_after past));
-        table_is = o.table_is;
-        status_is = o.status_is;
-        requests_are = rw (o.requests_are, same);
-        nulls_are = o.nulls_are;
-        ids = tt;
-        need_is = tt;
-        plan_is = tt;
-      };
-    }
+    let allowed = allowed_result (after past) id closing o.requests_are null refl refl framed in
+    subst (λ closed. Keeps false (idle (record base { closed = closed }) status) (write (result (Some id) null) ∷ past)) (true_or base.closed)
+    (by_result id closing null base status past refl o allowed)
 
 -- a question about the workspace in force is answered
-gives_answer : (id : Id) (space : Space) (question : Question) (value : Data) (base : Base) (status : Option ℕ) (past : List Event) → IsAnswer space question value
-    → Owes base status (owed id (answering space question)) [] past → IsFramed (result (Some id) value) → Keeps false (idle base status) (write (result (Some id) value) ∷ past)
-gives_answer id space question value base status past answers o framed =
-    let same = same_id_refl id in
-    record {
-      lawful = record {
-        each = (
-          record {
-            framed = framed;
-            once = rw (o.requests_are, same);
-            exact = rw (o.requests_are, same) answers;
-            in_order = rw (o.requests_are) tt;
-            shows = rw (o.requests_are) tt;
-          },
-          o.lawful.each,
-        );
-      };
-      knows = λ _. record {
-        force_is = rw (o.requests_are, same) o.force_is;
-        closed_is = rw (o.closed_is, o.requests_are, same) (same_or base.closed);
-        table_is = o.table_is;
-        status_is = o.status_is;
-        requests_are = rw (o.requests_are, same);
-        nulls_are = o.nulls_are;
-        ids = tt;
-        need_is = tt;
-        plan_is = tt;
-      };
-    }
-
 pub gives_result : (id : Id) (v : Verdict) (value : Data) (base : Base) (status : Option ℕ) (past : List Event) → IsReply v value → Owes base status (owed id v) [] past
     → IsFramed (result (Some id) value) → Keeps false (idle base status) (write (result (Some id) value) ∷ past)
+gives_result id (answering space question) value base status past answers o framed =
+    let allowed = allowed_result (after past) id (answering space question) o.requests_are value answers refl framed in
+    subst (λ closed. Keeps false (idle (record base { closed = closed }) status) (write (result (Some id) value) ∷ past)) (same_or base.closed)
+    (by_result id (answering space question) value base status past refl o allowed)
 gives_result id (asking root) value base status past answers o framed = absurd answers
 gives_result id (opening root file) value base status past answers o framed = absurd answers
+gives_result id (queued call) value base status past answers o framed = absurd answers
 gives_result id (building build) value base status past answers o framed = absurd answers
 gives_result id (built build entries) value base status past answers o framed = absurd answers
-gives_result id (answering space question) value base status past answers o framed = gives_answer id space question value base status past answers o framed
 gives_result id closing value base status past answers o framed = absurd answers
 gives_result id (refusal code text) value base status past answers o framed = absurd answers
-
--- a request is owed a refusal, and is given it
-gives_refusal : (id : Id) (v : Verdict) (code : ℤ) (text : List ℕ) (base : Base) (status : Option ℕ) (past : List Event) → active_as id v ≡ None → Owes base status (owed id v) [] past
-    → IsRefused (Some v) code text → IsFramed (failure (Some id) code text) → Keeps false (idle base status) (write (failure (Some id) code text) ∷ past)
-gives_refusal id v code text base status past none o refused framed =
-    let same = same_id_refl id in
-    record {
-      lawful = record {
-        each = (
-          record {
-            framed = framed;
-            once = rw (o.requests_are, same);
-            exact = rw (o.requests_are, same) refused;
-            in_order = rw (o.requests_are, none) tt;
-            shows = rw (o.requests_are, none) tt;
-          },
-          o.lawful.each,
-        );
-      };
-      knows = λ _. record {
-        force_is = o.force_is;
-        closed_is = rw (o.closed_is) (same_or base.closed);
-        table_is = o.table_is;
-        status_is = o.status_is;
-        requests_are = rw (o.requests_are, same);
-        nulls_are = o.nulls_are;
-        ids = tt;
-        need_is = tt;
-        plan_is = tt;
-      };
-    }
 
 -- one request is owed an answer, and is given it
 pub gives : (id : Id) (v : Verdict) (answer : Answer) (base : Base) (status : Option ℕ) (past : List Event) → Fits v answer → Owes base status (owed id v) [] past
@@ -205,7 +136,8 @@ gives id (asking root) answer base status past fits o framed = absurd fits
 gives id (opening root file) (answers.Opening space) base status past fits o framed = gives_opening id root file space base status past fits o framed
 gives id (opening root file) answers.Closing base status past fits o framed = absurd fits
 gives id (opening root file) (answers.Refused reason) base status past fits o framed =
-    gives_refusal id (opening root file) (code_of reason) (message_of reason) base status past refl o fits framed
+    gives_refusal id (opening root file) (code_of reason) (message_of reason) base status past o fits framed
+gives id (queued call) answer base status past fits o framed = absurd fits
 gives id (building build) answer base status past fits o framed = absurd fits
 gives id (built build entries) answer base status past fits o framed = absurd fits
 gives id (answering space question) answer base status past fits o framed = absurd fits
@@ -215,40 +147,28 @@ gives id closing (answers.Refused reason) base status past fits o framed = absur
 gives id (refusal code text) (answers.Opening space) base status past fits o framed = absurd fits
 gives id (refusal code text) answers.Closing base status past fits o framed = absurd fits
 gives id (refusal code text) (answers.Refused reason) base status past fits o framed =
-    gives_refusal id (refusal code text) (code_of reason) (message_of reason) base status past refl o fits framed
+    gives_refusal id (refusal code text) (code_of reason) (message_of reason) base status past o fits framed
 
 -- one code is owed with the id null, and is given
-pub gives_unread : (code : ℤ) (base : Base) (status : Option ℕ) (past : List Event) → Owes base status [] (code ∷ []) past → IsFramed (answer_unread code)
+pub gives_unread : (code : ℤ) (base : Base) (status : Option ℕ) (past : List Event) → Owes base status None (code ∷ []) past → IsFramed (answer_unread code)
     → Keeps false (idle base status) (write (answer_unread code) ∷ past)
 gives_unread code base status past o framed =
     record {
-      lawful = record {
-        each = (
-          record {
-            framed = framed;
-            once = record { first = code; others = []; are = o.nulls_are };
-            exact = rw (o.nulls_are) (refl, refl);
-            in_order = rw (o.requests_are) tt;
-            shows = rw (o.requests_are) tt;
-          },
-          o.lawful.each,
-        );
-      };
+      lawful = record { each = (allowed_null (after past) code o.nulls_are framed, o.lawful.each) };
       knows = λ _. record {
         force_is = o.force_is;
         closed_is = rw (o.closed_is) (same_or base.closed);
         table_is = o.table_is;
         status_is = o.status_is;
         requests_are = o.requests_are;
-        nulls_are = rw (o.nulls_are);
-        ids = tt;
+        nulls_are = rw (o.nulls_are) refl;
         need_is = tt;
         plan_is = tt;
       };
     }
 
 -- nothing is owed
-pub gives_none : (base : Base) (status : Option ℕ) (past : List Event) → Owes base status [] [] past → Keeps false (idle base status) past
+pub gives_none : (base : Base) (status : Option ℕ) (past : List Event) → Owes base status None [] past → Keeps false (idle base status) past
 gives_none base status past o =
     record {
       lawful = o.lawful;
@@ -259,7 +179,6 @@ gives_none base status past o =
         status_is = o.status_is;
         requests_are = o.requests_are;
         nulls_are = o.nulls_are;
-        ids = tt;
         need_is = tt;
         plan_is = tt;
       };
@@ -268,9 +187,9 @@ gives_none base status past o =
 -- ---- a request is kept until the tree answered
 
 -- an initialize, until it has the workspace file
-pub keeps_asking : (id : Id) (root : List ℕ) (base : Base) (status : Option ℕ) (past : List Event) → IsId id → Owes base status (owed id (asking root)) [] past
+pub keeps_asking : (id : Id) (root : List ℕ) (base : Base) (status : Option ℕ) (past : List Event) → Owes base status (owed id (asking root)) [] past
     → Keeps false (record { base = base; status = status; awaiting = Some (awaits.Opening id root); need = Some workspace_need }) past
-keeps_asking id root base status past named o =
+keeps_asking id root base status past o =
     record {
       lawful = o.lawful;
       knows = λ _. record {
@@ -278,9 +197,8 @@ keeps_asking id root base status past named o =
         closed_is = o.closed_is;
         table_is = o.table_is;
         status_is = o.status_is;
-        requests_are = o.requests_are;
+        requests_are = subst (λ force. AreOpen (after past).requests force (owed id (asking root))) o.force_is o.requests_are;
         nulls_are = o.nulls_are;
-        ids = (named, tt);
         need_is = refl;
         plan_is = tt;
       };
@@ -291,10 +209,10 @@ waits_in : (force : Option Space) (space : Space) (id : Id) (plan : Plan) → fo
 waits_in force space id plan is = sym (ap (λ f. building_in f id plan) is)
 
 -- a build, until it has its documents
-pub keeps_building : (id : Id) (plan : Plan) (v : Verdict) (base : Base) (status : Option ℕ) (past : List Event) → IsId id → IsPlanOf base.force v plan → Owes base status (owed id v) [] past
+pub keeps_building : (id : Id) (plan : Plan) (v : Verdict) (base : Base) (status : Option ℕ) (past : List Event) → IsPlanOf base.force v plan → Owes base status (owed id v) [] past
     → Keeps false (record { base = base; status = status; awaiting = Some (awaits.Building id plan); need = Some (needs.Tree (paths_in plan)) }) past
-keeps_building id plan v base status past named of o =
-    let waits = waits_in base.force of.space id plan of.in_force in
+keeps_building id plan v base status past of o =
+    let waits : owed id (building (build_in of.space plan)) ≡ building_in base.force id plan = waits_in base.force of.space id plan of.in_force in
     record {
       lawful = o.lawful;
       knows = λ _. record {
@@ -302,10 +220,11 @@ keeps_building id plan v base status past named of o =
         closed_is = o.closed_is;
         table_is = o.table_is;
         status_is = o.status_is;
-        requests_are = o.requests_are ∙ ap (owed id) of.is ∙ waits;
+        requests_are =
+            subst (AreOpen (after past).requests base.force) (ap (owed id) of.is ∙ waits)
+            (subst (λ force. AreOpen (after past).requests force (owed id v)) o.force_is o.requests_are);
         nulls_are = o.nulls_are;
-        ids = subst EachId waits (named, tt);
-        need_is = subst (λ requests. WantedBy requests (paths_in plan)) waits (record { places = plan.places; of_build = of.places; are = refl });
+        need_is = subst (λ standing. WantsOf standing (paths_in plan)) waits (record { places = plan.places; of_build = of.places; are = refl });
         plan_is = subst (λ f. AreIn f plan) (sym of.in_force) of.places;
       };
     }

@@ -1,15 +1,21 @@
 -- What follows for an order that a core stands for, and for one with more messages written.
 use Rattle.std.proofs.Common.{◌≡◌, ◌++◌, ◌≤◌, ℤ, List, [], ◌∷◌, map, Bool, true, false, cond, Some, None, IfSome, Result, Ok, Err, refl, ap, ◌∙◌, append_assoc, append-nil, sym, subst, lit≤}
 use Rattle.std.specs.Prelude.{codes}
+use Rattle.std.specs.List.{All}
+use Rattle.std.proofs.lemmas.List.Elements.{All-nil}
 use Rattle.rpc_peer.specs.declared.message.Message.{Message}
 use Rattle.rpc_peer.specs.Meaning.{meaning}
 use Rattle.rpc_peer.specs.Said.{Said, said, request, notification, result, failure}
-use Rattle.session_law.specs.Lawful.{Lawful, EachAllowed, IsSettled}
+use Rattle.session_law.specs.AnswersAll.{IsSettled}
+use Rattle.session_law.specs.AnswersAtOnce.{HeadIsUp, IsCaughtUp, Waits}
+use Rattle.session_law.specs.Lawful.{Lawful, EachAllowed}
 use Rattle.session_law.specs.Order.{Event, take, ends, hand, write, takes_of, writes_of, hands_of, failures_of, end_of}
+use Rattle.session_law.specs.declared.InputEnd.{InputEnd}
 use Rattle.session_law.specs.declared.InputEnd.TheVariants.{Border, Damaged, Failed}
 use Rattle.session_law.specs.Methods.{is_named}
-use Rattle.session_law.specs.Past.{exit_status, closed_after, status_after}
-use Rattle.session_core.specs.Standing.{StandsFor, Keeps, Knows, IsFree, IsQuiet, IsAlive, onto}
+use Rattle.session_law.specs.Past.{Now, exit_status, closed_after, open_after, status_after}
+use Rattle.session_law.specs.Requests.{all_marked, closed_by}
+use Rattle.session_core.specs.Standing.{StandsFor, AreOpen, Keeps, Knows, IsFree, IsQuiet, IsAlive, onto}
 use Rattle.session_core.specs.State.{state_of, asked_by}
 use Rattle.session_core.specs.declared.session.Core.{Core}
 
@@ -58,7 +64,33 @@ known core order quiet alive stands =
 
 -- nothing is owed in an order of a core for which nothing waits
 pub settled : (core : Core) (order : List Event) → IsFree core → Knows (state_of core) order → IsSettled order
-settled core order free knows = record { requests = knows.requests_are ∙ ap (asked_by core.workspace) free; nulls = knows.nulls_are }
+settled core order free knows =
+    record { requests = subst (λ awaiting. AreOpen (open_after order) core.workspace (asked_by core.workspace awaiting)) free knows.requests_are; nulls = knows.nulls_are }
+
+-- where nothing is owed, nothing is owed at once
+pub caught_up : (now : Now) → now.requests ≡ [] → now.nulls ≡ [] → IsCaughtUp now
+caught_up now none nulls =
+    record {
+      nulls = nulls;
+      head = subst HeadIsUp (sym none) tt;
+      requests = subst (All Waits) (sym none) (All-nil Waits);
+    }
+
+closed_nothing : (m : Said) → closed_by m [] ≡ []
+closed_nothing (request id method params) = refl
+closed_nothing (notification method params) = refl
+closed_nothing (result None value) = refl
+closed_nothing (result (Some id) value) = refl
+closed_nothing (failure None code text) = refl
+closed_nothing (failure (Some id) code text) = refl
+
+open_onto : (messages : List Said) (order : List Event) → open_after order ≡ [] → open_after (onto messages order) ≡ []
+open_onto [] order none = none
+open_onto (m ∷ messages) order none = open_onto messages (write m ∷ order) (ap (closed_by m) none ∙ closed_nothing m)
+
+-- where no request is open as the input ends, none is open behind that
+pub none_open : (messages : List Said) (how : InputEnd) (order : List Event) → open_after order ≡ [] → open_after (onto messages (ends how ∷ order)) ≡ []
+none_open messages how order none = open_onto messages (ends how ∷ order) (ap all_marked none)
 
 status_left : (leaves closed : Bool) → IfSome (cond leaves (Some (cond closed 0 1)) None) (λ status. status ≤ 3)
 status_left true true = lit≤ tt

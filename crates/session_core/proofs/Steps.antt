@@ -1,5 +1,5 @@
 -- What the core does in one step, in the words of the law.
-use Rattle.std.proofs.Common.{◌≡◌, ◌++◌, ℕ, ℤ, List, [], ◌∷◌, map, Bool, true, false, Option, Some, None, Result, Ok, Err, OnOk, OnErr, is_err, IfSome, option_to_list, refl, ap, sym, ◌∙◌, subst}
+use Rattle.std.proofs.Common.{◌≡◌, ◌++◌, ℕ, ℤ, suc, List, [], ◌∷◌, map, Bool, true, false, Option, Some, None, Result, Ok, Err, OnOk, OnErr, is_err, IfSome, option_to_list, refl, ap, sym, ◌∙◌, subst}
 use Rattle.ob_text.specs.declared.held.Snapshot.{Snapshot}
 use Rattle.rpc_peer.specs.declared.message.Id.{Id}
 use Rattle.rpc_peer.specs.declared.message.Message.{Message}
@@ -9,15 +9,18 @@ use Rattle.serde_json.specs.View.{view}
 use Rattle.session_law.specs.declared.InputEnd.TheVariants.{Border, Damaged, Failed}
 use Rattle.session_law.specs.declared.InputEnd.{InputEnd}
 use Rattle.session_law.specs.Builds.{ArePlaces, CleanBuild, build_answer, build_said, table_with}
-use Rattle.session_law.specs.Lawful.{Lawful, EachAllowed, IsFramed}
-use Rattle.session_law.specs.Methods.{Verdict, asking, building, unreadable, verdict}
+use Rattle.session_law.specs.AnswersAtOnce.{IsCaughtUp}
+use Rattle.session_law.specs.IsFramed.{IsFramed}
+use Rattle.session_law.specs.Lawful.{Lawful, EachAllowed}
+use Rattle.session_law.specs.Methods.{Verdict, asking, opening, queued, building, built, answering, closing, refusal, unreadable, verdict, due_in}
 use Rattle.session_law.specs.Order.{Entries, Event, take, ends, hand, write}
-use Rattle.session_law.specs.Past.{WantedBy, handed_over, handed_by, exit_status, opened_by, nulls_for, nulls_for_end, end_status}
+use Rattle.session_law.specs.Past.{after, exit_status, nulls_for, nulls_for_end, end_status}
+use Rattle.session_law.specs.Requests.{Asked, WantedBy, Wants, all_marked, first_up, handed_by, handed_over, opened_by}
 use Rattle.session_core.specs.Acting.{answer_unread, answered, paths_in, Answers, AnswersAs, Builds, BuildsOn, Steps, Serves, Acts, ActsOnHand, Ends, exited_by}
 use Rattle.session_core.specs.Judging.{answer_to, IsSaidOwed, Judges}
 use Rattle.session_core.specs.Plans.{Plan, build_in}
-use Rattle.session_core.specs.State.{Base, State, base_of, state_of, asked_by, owed, handed_of, workspace_need}
-use Rattle.session_core.specs.Standing.{Knows, Keeps, EachId, NeedFits, PlanFits, Suits, onto}
+use Rattle.session_core.specs.State.{Base, Standing, State, base_of, state_of, asked_by, owed, handed_of, workspace_need}
+use Rattle.session_core.specs.Standing.{AreOpen, IsOnly, Knows, Keeps, NeedFits, PlanFits, Suits, WantsOf, onto}
 use Rattle.session_core.specs.declared.awaiting.Awaiting.{Awaiting}
 use Rattle.session_core.specs.declared.awaiting.Awaiting.TheVariants as awaits
 use Rattle.session_core.specs.declared.awaiting.Need.{Need}
@@ -32,7 +35,7 @@ use Rattle.task_stream.specs.Showing.{shows}
 use Rattle.session_core.proofs.Framing.{framed_answer, framed_build, framed_result}
 use Rattle.session_core.proofs.Owing.{Owes, idle, gives, gives_unread, gives_none, gives_result, keeps_asking, keeps_building}
 use Rattle.session_core.proofs.Publications.{gives_build}
-use Rattle.session_core.proofs.StandingLaws.{before}
+use Rattle.session_core.proofs.StandingLaws.{before, caught_up}
 
 -- ---- what is owed once a body was taken that means this, once the input ended, and once the tree answered
 
@@ -41,29 +44,50 @@ abbrev Rests : Base → List Event → Type 0
 Rests base order = Knows (idle base None) order
 
 module _ (base : Base) (order : List Event) (lawful : Lawful order) (knows : Rests base order) where
-  taken : (body : List ℕ) (meant : Result Said ℤ) → meaning body ≡ meant
-      → Owes base (exit_status meant base.closed) (opened_by meant base.force base.closed []) (nulls_for meant []) (take body ∷ order)
-  taken body meant means =
+  caught : IsCaughtUp (after order)
+  caught = caught_up (after order) knows.requests_are knows.nulls_are
+
+  -- which request is open once a body was taken that means this
+  abbrev standing_by : Result Said ℤ → Option Standing
+  standing_by (Ok (request id method params)) = owed id (due_in base.force (verdict method params base.force base.closed))
+  standing_by meant = None
+
+  -- a request has an id
+  abbrev NamedBy : Result Said ℤ → Type 0
+  NamedBy (Ok (request id method params)) = IsId id
+  NamedBy meant = Unit {0}
+
+  opened : (n : ℕ) (meant : Result Said ℤ) → NamedBy meant → AreOpen (opened_by meant n base.force base.closed []) base.force (standing_by meant)
+  opened n (Ok (request id method params)) named =
+      record { number = n; judged = verdict method params base.force base.closed; are = refl; stands = refl; named = named }
+  opened n (Ok (notification method params)) named = refl
+  opened n (Ok (result id value)) named = refl
+  opened n (Ok (failure id code text)) named = refl
+  opened n (Err code) named = refl
+
+  taken : (body : List ℕ) (meant : Result Said ℤ) → meaning body ≡ meant → NamedBy meant
+      → Owes base (exit_status meant base.closed) (standing_by meant) (nulls_for meant []) (take body ∷ order)
+  taken body meant means named =
       record {
-        lawful = record { each = (record { answered = record { requests = knows.requests_are; nulls = knows.nulls_are }; goes_on = knows.status_is }, lawful.each) };
+        lawful = record { each = (record { answered = caught; goes_on = knows.status_is }, lawful.each) };
         force_is = knows.force_is;
         closed_is = knows.closed_is;
         table_is = knows.table_is;
-        status_is = rw (means, knows.closed_is);
-        requests_are = rw (means, knows.force_is, knows.closed_is, knows.requests_are);
-        nulls_are = rw (means, knows.nulls_are, knows.requests_are);
+        status_is = rw (means, knows.closed_is) refl;
+        requests_are = rw (means, knows.force_is, knows.closed_is, knows.requests_are) (opened (suc (after order).taken) meant named);
+        nulls_are = rw (means, knows.nulls_are, knows.requests_are) refl;
       }
 
-  ended : (how : InputEnd) → Owes base (Some (end_status how)) [] (nulls_for_end how) (ends how ∷ order)
+  ended : (how : InputEnd) → Owes base (Some (end_status how)) None (nulls_for_end how) (ends how ∷ order)
   ended how =
       record {
-        lawful = record { each = (record { answered = record { requests = knows.requests_are; nulls = knows.nulls_are }; goes_on = knows.status_is }, lawful.each) };
+        lawful = record { each = (record { answered = caught; goes_on = knows.status_is }, lawful.each) };
         force_is = knows.force_is;
         closed_is = knows.closed_is;
         table_is = knows.table_is;
         status_is = refl;
-        requests_are = knows.requests_are;
-        nulls_are = rw (knows.nulls_are);
+        requests_are = ap all_marked knows.requests_are;
+        nulls_are = rw (knows.nulls_are) refl;
       }
 
 -- ---- one step
@@ -74,6 +98,44 @@ steps : (old new : Core) (state : State) (messages : List Said) (order : List Ev
 steps old new state messages order s quiet alive keeps =
     let queue : map said new.out.items ≡ messages = s.queued ∙ ap (λ ms. ms ++ messages) (ap (map said) quiet) in
     rw (s.state_is, queue) keeps
+
+-- ---- the request that waits for the tree
+
+-- a request that is owed this may wait for the tree
+abbrev MayAsk : Verdict → Type 0
+MayAsk (asking root) = Unit {0}
+MayAsk (building build) = Unit {0}
+MayAsk v = ⊥
+
+wanted_by : (requests : List Asked) (force : Option Space) (standing : Option Standing) (paths : List (List ℕ)) → AreOpen requests force standing → WantsOf standing paths
+    → WantedBy (first_up force requests) paths
+wanted_by requests force None paths are wants = absurd wants
+wanted_by requests force (Some s) paths only wants =
+    rw (only.are) (record { wants = subst (λ v. Wants v paths) (sym only.stands) wants; goes_on = refl })
+
+-- once it was handed its files, it is judged by them
+stays : (force : Option Space) (handed : Option Entries) (v : Verdict) → MayAsk v → due_in force (handed_over handed v) ≡ handed_over handed v
+stays force None (asking root) asks = refl
+stays force (Some entries) (asking root) asks = refl
+stays force None (building build) asks = refl
+stays force (Some entries) (building build) asks = refl
+stays force handed (opening root file) asks = absurd asks
+stays force handed (queued call) asks = absurd asks
+stays force handed (built build entries) asks = absurd asks
+stays force handed (answering space question) asks = absurd asks
+stays force handed closing asks = absurd asks
+stays force handed (refusal code text) asks = absurd asks
+
+handed_only : (requests : List Asked) (force : Option Space) (id : Id) (v : Verdict) (handed : Option Entries) → MayAsk v → IsOnly requests force id v
+    → IsOnly (handed_by handed (first_up force requests)) force id (handed_over handed v)
+handed_only requests force id v handed asks only =
+    record {
+      number = only.number;
+      judged = handed_over handed v;
+      are = rw (only.are, only.stands) refl;
+      stands = stays force handed v asks;
+      named = only.named;
+    }
 
 -- nothing is needed where nothing waits
 nothing_needed : (need : Option Need) (force : Option Space) → NeedFits need force None → need ≡ None
@@ -113,11 +175,11 @@ module _ (old new : Core) (order : List Event) (quiet : old.out.items ≡ []) (a
     by_owed event id v (owing.Asking root) judged short named owes acts =
         steps old new _ [] (event ∷ order) acts quiet alive
         (subst (λ state. Keeps false (record state { awaiting = Some (awaits.Opening id root); need = Some workspace_need }) (event ∷ order)) (sym state_is)
-        (keeps_asking id root base None (event ∷ order) named (subst (λ u. Owes base None (owed id u) [] (event ∷ order)) judged owes)))
+        (keeps_asking id root base None (event ∷ order) (subst (λ u. Owes base None (owed id u) [] (event ∷ order)) judged owes)))
     by_owed event id v (owing.Building plan) judged short named owes acts =
         steps old new _ [] (event ∷ order) acts quiet alive
         (subst (λ state. Keeps false (record state { awaiting = Some (awaits.Building id plan); need = Some (needs.Tree (paths_in plan)) }) (event ∷ order)) (sym state_is)
-        (keeps_building id plan v base None (event ∷ order) named judged owes))
+        (keeps_building id plan v base None (event ∷ order) judged owes))
     by_owed event id v (owing.Result value) judged short named owes acts =
         steps old new _ (result (Some id) (view value) ∷ []) (event ∷ order) acts quiet alive
         (subst (λ state. Keeps false state (write (result (Some id) (view value)) ∷ event ∷ order)) (sym state_is)
@@ -129,21 +191,21 @@ module _ (old new : Core) (order : List Event) (quiet : old.out.items ≡ []) (a
 
     pub acted : (body : List ℕ) (meant : Result Said ℤ) → meaning body ≡ meant → Acts old new meant → Next (take body)
     acted body (Ok (request id method params)) means acts =
-        let owes = taken base order keeps.lawful rests body (Ok (request id method params)) means in
-        by_owed (take body) id (verdict method params base.force base.closed) acts.owed acts.judged acts.short acts.named owes acts.serves
+        let owes = taken base order keeps.lawful rests body (Ok (request id method params)) means acts.named in
+        by_owed (take body) id (due_in base.force (verdict method params base.force base.closed)) acts.owed acts.judged acts.short acts.named owes acts.serves
     acted body (Ok (notification method params)) means acts =
-        let owes = taken base order keeps.lawful rests body (Ok (notification method params)) means in
+        let owes = taken base order keeps.lawful rests body (Ok (notification method params)) means tt in
         steps old new _ [] (take body ∷ order) acts quiet alive (subst (λ state. Keeps false (record state { status = exited_by method old.closed old.status }) (take body ∷ order)) (sym state_is)
         (subst (λ status. Keeps false (idle base (exited_by method old.closed status)) (take body ∷ order)) (sym none)
         (gives_none base (exited_by method old.closed None) (take body ∷ order) owes)))
     acted body (Ok (result id value)) means acts =
-        let owes = taken base order keeps.lawful rests body (Ok (result id value)) means in
+        let owes = taken base order keeps.lawful rests body (Ok (result id value)) means tt in
         steps old new _ [] (take body ∷ order) acts quiet alive (subst (λ state. Keeps false state (take body ∷ order)) (sym state_is) (gives_none base None (take body ∷ order) owes))
     acted body (Ok (failure id code text)) means acts =
-        let owes = taken base order keeps.lawful rests body (Ok (failure id code text)) means in
+        let owes = taken base order keeps.lawful rests body (Ok (failure id code text)) means tt in
         steps old new _ [] (take body ∷ order) acts quiet alive (subst (λ state. Keeps false state (take body ∷ order)) (sym state_is) (gives_none base None (take body ∷ order) owes))
     acted body (Err code) means acts =
-        let owes = taken base order keeps.lawful rests body (Err code) means in
+        let owes = taken base order keeps.lawful rests body (Err code) means tt in
         steps old new _ (answer_unread code ∷ []) (take body ∷ order) acts.0 quiet alive
         (subst (λ state. Keeps false state (write (answer_unread code) ∷ take body ∷ order)) (sym state_is) (gives_unread code base None (take body ∷ order) owes acts.1))
 
@@ -162,11 +224,11 @@ module _ (old new : Core) (order : List Event) (quiet : old.out.items ≡ []) (a
 
     pub may_take : (body : List ℕ) → Lawful (take body ∷ order)
     may_take body =
-        record { each = (record { answered = record { requests = rests.requests_are; nulls = rests.nulls_are }; goes_on = rests.status_is }, keeps.lawful.each) }
+        record { each = (record { answered = caught (base_of old) order keeps.lawful rests; goes_on = rests.status_is }, keeps.lawful.each) }
 
     pub may_end : (how : InputEnd) → Lawful (ends how ∷ order)
     may_end how =
-        record { each = (record { answered = record { requests = rests.requests_are; nulls = rests.nulls_are }; goes_on = rests.status_is }, keeps.lawful.each) }
+        record { each = (record { answered = caught (base_of old) order keeps.lawful rests; goes_on = rests.status_is }, keeps.lawful.each) }
 
   -- a core that found no memory queued nothing, and its order is lawful still
   lost : (event : Event) → new.out.items ≡ old.out.items → Lawful (event ∷ order) → Keeps true (state_of new) (onto (map said new.out.items) (event ∷ order))
@@ -181,14 +243,24 @@ module _ (old new : Core) (order : List Event) (quiet : old.out.items ≡ []) (a
     behind : List Event
     behind = hand (handed_of got) ∷ order
 
+    -- the request that waits, as the law has it
+    waiting : AreOpen (after order).requests (after order).force (asked_by old.workspace old.awaiting)
+    waiting =
+        let knows = keeps.knows alive in
+        subst (λ force. AreOpen (after order).requests force (asked_by old.workspace old.awaiting)) (sym knows.force_is) knows.requests_are
+
     pub may_hand : Lawful (hand (handed_of got) ∷ order)
     may_hand =
-        let knows = keeps.knows alive in
-        record { each = (record { paths = suits.paths; wanted = subst (λ requests. WantedBy requests suits.paths) (sym knows.requests_are) suits.awaited; held = suits.held }, keeps.lawful.each) }
+        record {
+          each = (
+            record { paths = suits.paths; wanted = wanted_by (after order).requests (after order).force (asked_by old.workspace old.awaiting) suits.paths waiting suits.awaited; held = suits.held },
+            keeps.lawful.each,
+          );
+        }
 
     -- the request that waited is owed its answer
-    owes_on : (id : Id) (v : Verdict) → asked_by old.workspace old.awaiting ≡ owed id v → Owes (base_of old) old.status (owed id (handed_over (handed_of got) v)) [] (hand (handed_of got) ∷ order)
-    owes_on id v waits =
+    owes_on : (id : Id) (v : Verdict) → MayAsk v → asked_by old.workspace old.awaiting ≡ owed id v → Owes (base_of old) old.status (owed id (handed_over (handed_of got) v)) [] (hand (handed_of got) ∷ order)
+    owes_on id v asks waits =
         let knows = keeps.knows alive in
         record {
           lawful = may_hand;
@@ -196,18 +268,18 @@ module _ (old new : Core) (order : List Event) (quiet : old.out.items ≡ []) (a
           closed_is = knows.closed_is;
           table_is = knows.table_is;
           status_is = knows.status_is;
-          requests_are = ap (handed_by (handed_of got)) (knows.requests_are ∙ waits);
+          requests_are = handed_only (after order).requests (after order).force id v (handed_of got) asks (subst (AreOpen (after order).requests (after order).force) waits waiting);
           nulls_are = knows.nulls_are;
         }
 
     -- it has an id
     named_on : (id : Id) (v : Verdict) → asked_by old.workspace old.awaiting ≡ owed id v → IsId id
-    named_on id v waits = (subst EachId waits (keeps.knows alive).ids).0
+    named_on id v waits = let only : IsOnly (after order).requests (after order).force id v = subst (AreOpen (after order).requests (after order).force) waits waiting in only.named
 
     -- it is answered at once
-    answered_on : (id : Id) (v : Verdict) → asked_by old.workspace old.awaiting ≡ owed id v → AnswersAs old new id (handed_over (handed_of got) v) → Next (hand (handed_of got))
-    answered_on id v waits acts =
-        let given = gives id (handed_over (handed_of got) v) acts.answer (base_of old) old.status (hand (handed_of got) ∷ order) acts.fits (owes_on id v waits)
+    answered_on : (id : Id) (v : Verdict) → MayAsk v → asked_by old.workspace old.awaiting ≡ owed id v → AnswersAs old new id (handed_over (handed_of got) v) → Next (hand (handed_of got))
+    answered_on id v asks waits acts =
+        let given = gives id (handed_over (handed_of got) v) acts.answer (base_of old) old.status (hand (handed_of got) ∷ order) acts.fits (owes_on id v asks waits)
         (framed_answer id acts.answer (named_on id v waits) acts.short) in
         steps old new _ (answer_to id acts.answer ∷ []) (hand (handed_of got) ∷ order) acts.answers quiet alive
         (subst (λ need. Keeps false (record (answered (idle (base_of old) old.status) acts.answer) { need = need }) (write (answer_to id acts.answer) ∷ hand (handed_of got) ∷ order))
@@ -220,7 +292,7 @@ module _ (old new : Core) (order : List Event) (quiet : old.out.items ≡ []) (a
         let p = acts.published in
         let build = build_in space plan in
         let clean : CleanBuild build entries p.findings = record { places = subst (ArePlaces build) (sym p.of_places) places; found = p.found } in
-        let owes = subst (λ h. Owes (base_of old) old.status (owed id (handed_over h (building build))) [] (hand (handed_of got) ∷ order)) is (owes_on id (building build) waits) in
+        let owes = subst (λ h. Owes (base_of old) old.status (owed id (handed_over h (building build))) [] (hand (handed_of got) ∷ order)) is (owes_on id (building build) tt waits) in
         let kept : shows new.shown ≡ table_with acts.messages (shows old.shown) = λ i document target. p.kept document target i in
         let answer_is : build_answer id build p.findings ≡ build_said id plan.origin acts.failed = ap (build_said id plan.origin) (sym p.failed_is) in
         let framed = subst IsFramed (sym answer_is) (framed_build id plan.origin acts.failed (named_on id (building build) waits) acts.short) in
@@ -239,7 +311,7 @@ module _ (old new : Core) (order : List Event) (quiet : old.out.items ≡ []) (a
         absurd fits
     builds_on id plan (Some space) None in_force is waits acts =
         let asked : asked_by old.workspace old.awaiting ≡ owed id (building (build_in space plan)) = ap (asked_by old.workspace) waits ∙ ap (λ f. asked_by f (Some (awaits.Building id plan))) in_force in
-        answered_on id (building (build_in space plan)) asked (subst (λ h. AnswersAs old new id (handed_over h (building (build_in space plan)))) (sym is) acts)
+        answered_on id (building (build_in space plan)) tt asked (subst (λ h. AnswersAs old new id (handed_over h (building (build_in space plan)))) (sym is) acts)
     builds_on id plan (Some space) (Some entries) in_force is waits acts =
         let asked : asked_by old.workspace old.awaiting ≡ owed id (building (build_in space plan)) = ap (asked_by old.workspace) waits ∙ ap (λ f. asked_by f (Some (awaits.Building id plan))) in_force in
         let fits : PlanFits (Some space) (Some (awaits.Building id plan)) = subst (λ f. PlanFits f (Some (awaits.Building id plan))) in_force
@@ -248,9 +320,9 @@ module _ (old new : Core) (order : List Event) (quiet : old.out.items ≡ []) (a
 
     pub acted_on_hand : (awaiting : Option Awaiting) → old.awaiting ≡ awaiting → ActsOnHand old new awaiting got → Next (hand (handed_of got))
     acted_on_hand None is acts =
-        let none : WantedBy [] suits.paths = subst (λ a. WantedBy (asked_by old.workspace a) suits.paths) is suits.awaited in
+        let none : WantsOf None suits.paths = subst (λ a. WantsOf (asked_by old.workspace a) suits.paths) is suits.awaited in
         absurd none
-    acted_on_hand (Some (awaits.Opening id root)) is acts = answered_on id (asking root) (ap (asked_by old.workspace) is) acts
+    acted_on_hand (Some (awaits.Opening id root)) is acts = answered_on id (asking root) tt (ap (asked_by old.workspace) is) acts
     acted_on_hand (Some (awaits.Building id plan)) is acts = builds_on id plan old.workspace (handed_of got) refl refl is acts
 
 -- a build whose documents couldn't be handed out is refused

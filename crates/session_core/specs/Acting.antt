@@ -12,11 +12,11 @@ use Rattle.serde_json.specs.Data.{Data}
 use Rattle.serde_json.specs.View.{view}
 use Rattle.session_build.specs.Publishing.{IsPublished}
 use Rattle.session_law.specs.Builds.{build_said}
-use Rattle.session_law.specs.Lawful.{IsFramed}
-use Rattle.session_law.specs.Methods.{Verdict, asking, unreadable, verdict, is_named, null_message}
+use Rattle.session_law.specs.IsFramed.{IsFramed}
+use Rattle.session_law.specs.Methods.{Verdict, asking, unreadable, verdict, due_in, is_named, null_message}
 use Rattle.session_law.specs.Once.{each_once}
 use Rattle.session_law.specs.Order.{Entries}
-use Rattle.session_law.specs.Past.{handed_over}
+use Rattle.session_law.specs.Requests.{handed_over}
 use Rattle.session_law.specs.declared.InputEnd.{InputEnd}
 use Rattle.session_law.specs.declared.InputEnd.TheVariants.{Border, Damaged, Failed}
 use Rattle.session_core.specs.Judging.{Fits, Judges, IsSaid, IsSaidOwed, answer_to}
@@ -96,7 +96,7 @@ pub record ServesAs (old new : Core) (id : Id) (v : Verdict) : Type 0 where
 
 -- the core acts on a body that means this
 abbrev pub Acts : Core → Core → Result Said ℤ → Type 0
-Acts old new (Ok (request id method params)) = ServesAs old new id (verdict method params old.workspace old.closed)
+Acts old new (Ok (request id method params)) = ServesAs old new id (due_in old.workspace (verdict method params old.workspace old.closed))
 Acts old new (Ok (notification method params)) =
     Steps old new (record (state_of old) { status = exited_by method old.closed old.status }) []
 Acts old new (Ok (result id value)) = Steps old new (state_of old) []

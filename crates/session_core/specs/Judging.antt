@@ -10,7 +10,7 @@ use Rattle.serde_json.specs.Data.{Data, null}
 use Rattle.serde_json.specs.View.{view}
 use Rattle.serde_json.specs.Written.{compact_text, has_float}
 use Rattle.session_law.specs.Builds.{ArePlaces}
-use Rattle.session_law.specs.Lawful.{IsNoWorkspace}
+use Rattle.session_law.specs.RefusesExactly.{IsNoWorkspace}
 use Rattle.session_law.specs.Questions.{IsAnswer}
 use Rattle.session_core.specs.Plans.{Plan, build_in}
 use Rattle.target_graph.specs.Faults.{Accepted}

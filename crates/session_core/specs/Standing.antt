@@ -2,12 +2,15 @@
 use Rattle.std.specs.Prelude.{◌≡◌, ℕ, List, [], ◌∷◌, length, map, Bool, false, Option, None, Some, IfSome}
 use Rattle.ob_text.specs.declared.held.Snapshot.{Snapshot}
 use Rattle.rpc_peer.specs.Said.{Said, said, IsId}
+use Rattle.rpc_peer.specs.declared.message.Id.{Id}
 use Rattle.session_law.specs.Lawful.{Lawful, AreHeld}
 use Rattle.session_law.specs.Order.{Event, write}
 use Rattle.session_law.specs.Builds.{ArePlaces}
-use Rattle.session_law.specs.Past.{Asked, WantedBy, open_after, nulls_after, force_after, closed_after, status_after, table_after}
+use Rattle.session_law.specs.Methods.{Verdict, due_in}
+use Rattle.session_law.specs.Past.{after}
+use Rattle.session_law.specs.Requests.{Asked, Wants}
 use Rattle.session_core.specs.Plans.{Plan, build_in}
-use Rattle.session_core.specs.State.{State, state_of, asked_by, paths_of, handed_of}
+use Rattle.session_core.specs.State.{Standing, State, state_of, asked_by, paths_of, handed_of}
 use Rattle.session_core.specs.declared.awaiting.Awaiting.TheVariants as awaits
 use Rattle.target_graph.specs.Workspace.{Space}
 use Rattle.session_core.specs.declared.awaiting.Awaiting.{Awaiting}
@@ -19,9 +22,28 @@ abbrev pub onto : List Said → List Event → List Event
 onto [] order = order
 onto (m ∷ messages) order = onto messages (write m ∷ order)
 
+-- One request is open. It isn't cancelled, and at the head of the queue it is owed this.
+pub record IsOnly (requests : List Asked) (force : Option Space) (id : Id) (v : Verdict) : Type 0 where
+  pub number : ℕ
+  -- what it was owed as it was taken, or as the tree answered
+  pub judged : Verdict
+  pub are : requests ≡ record { id = id; number = number; verdict = judged; cancelled = false } ∷ []
+  pub stands : due_in force judged ≡ v
+  pub named : IsId id
+
+-- these are open: one that stands so, or none
+abbrev pub AreOpen : List Asked → Option Space → Option Standing → Type 0
+AreOpen requests force None = requests ≡ []
+AreOpen requests force (Some standing) = IsOnly requests force standing.id standing.verdict
+
+-- the request wants these paths
+abbrev pub WantsOf : Option Standing → List (List ℕ) → Type 0
+WantsOf None paths = ⊥
+WantsOf (Some standing) paths = Wants standing.verdict paths
+
 -- what is needed is what the open request wants
 abbrev pub NeedFits : Option Need → Option Space → Option Awaiting → Type 0
-NeedFits need force awaiting = IfSome need (λ n. WantedBy (asked_by force awaiting) (paths_of n))
+NeedFits need force awaiting = IfSome need (λ n. WantsOf (asked_by force awaiting) (paths_of n))
 
 abbrev pub AreIn : Option Space → Plan → Type 0
 AreIn None plan = ⊥
@@ -33,20 +55,14 @@ PlanFits force None = Unit {0}
 PlanFits force (Some (awaits.Opening id root)) = Unit {0}
 PlanFits force (Some (awaits.Building id plan)) = AreIn force plan
 
--- the requests have ids
-abbrev pub EachId : List Asked → Type 0
-EachId [] = Unit {0}
-EachId (asked ∷ others) = IsId asked.id × EachId others
-
 -- what a core that found memory so far knows of an order
 pub record Knows (state : State) (order : List Event) : Type 0 where
-  pub force_is : force_after order ≡ state.base.force
-  pub closed_is : closed_after order ≡ state.base.closed
-  pub table_is : table_after order ≡ state.base.table
-  pub status_is : status_after order ≡ state.status
-  pub requests_are : open_after order ≡ asked_by state.base.force state.awaiting
-  pub nulls_are : nulls_after order ≡ []
-  pub ids : EachId (asked_by state.base.force state.awaiting)
+  pub force_is : (after order).force ≡ state.base.force
+  pub closed_is : (after order).closed ≡ state.base.closed
+  pub table_is : (after order).table ≡ state.base.table
+  pub status_is : (after order).status ≡ state.status
+  pub requests_are : AreOpen (after order).requests state.base.force (asked_by state.base.force state.awaiting)
+  pub nulls_are : (after order).nulls ≡ []
   pub need_is : NeedFits state.need state.base.force state.awaiting
   pub plan_is : PlanFits state.base.force state.awaiting
 
@@ -70,7 +86,7 @@ IsFree core = core.awaiting ≡ None
 
 -- the tree may be asked for these paths, for the request that waits
 abbrev pub Awaits : Core → List (List ℕ) → Type 0
-Awaits core paths = WantedBy (asked_by core.workspace core.awaiting) paths
+Awaits core paths = WantsOf (asked_by core.workspace core.awaiting) paths
 
 -- the tree needn't be asked
 abbrev pub NeedsNothing : Core → Type 0

@@ -5,7 +5,6 @@ use Rattle.ob_text.specs.declared.held.Snapshot.{Snapshot}
 use Rattle.rpc_peer.specs.declared.message.Id.{Id}
 use Rattle.session_law.specs.Methods.{Verdict, asking, building, workspace_path}
 use Rattle.session_law.specs.Order.{Entries}
-use Rattle.session_law.specs.Past.{Asked}
 use Rattle.session_core.specs.Plans.{Plan, build_in}
 use Rattle.session_core.specs.declared.awaiting.Awaiting.{Awaiting}
 use Rattle.session_core.specs.declared.awaiting.Awaiting.TheVariants as awaits
@@ -35,18 +34,23 @@ base_of core = record { force = core.workspace; closed = core.closed; table = sh
 abbrev pub state_of : Core → State
 state_of core = record { base = base_of core; status = core.status; awaiting = core.awaiting; need = core.need }
 
--- one open request that is owed this
-abbrev pub owed : Id → Verdict → List Asked
-owed id v = record { id = id; verdict = v } ∷ []
+-- A request that was taken up, and what it is owed.
+pub record Standing : Type 0 where
+  pub id : Id
+  pub verdict : Verdict
+
+-- one request is open, and owed this
+abbrev pub owed : Id → Verdict → Option Standing
+owed id v = Some (record { id = id; verdict = v })
 
 -- a build is of the workspace in force
-abbrev pub building_in : Option Space → Id → Plan → List Asked
-building_in None id plan = []
+abbrev pub building_in : Option Space → Id → Plan → Option Standing
+building_in None id plan = None
 building_in (Some space) id plan = owed id (building (build_in space plan))
 
--- the open request that waits for the tree, as the law has it
-abbrev pub asked_by : Option Space → Option Awaiting → List Asked
-asked_by force None = []
+-- the request that waits for the tree, as the law has it
+abbrev pub asked_by : Option Space → Option Awaiting → Option Standing
+asked_by force None = None
 asked_by force (Some (awaits.Opening id root)) = owed id (asking root)
 asked_by force (Some (awaits.Building id plan)) = building_in force id plan
 

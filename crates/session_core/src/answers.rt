@@ -5,7 +5,7 @@ ghost use Rattle.bsp_records.specs.declared.kinds.TheConstants.{ORIGIN_LIMIT};
 ghost use Rattle.serde_json.specs.View.{view};
 ghost use Rattle.rpc_peer.specs.Said.{said, result as answers, failure};
 ghost use Rattle.session_law.specs.Builds.{build_said};
-ghost use Rattle.session_law.specs.Lawful.{IsFramed};
+ghost use Rattle.session_law.specs.IsFramed.{IsFramed};
 ghost use Rattle.session_law.specs.Methods.{capabilities, initialize_result, null_message};
 ghost use Rattle.session_core.specs.Acting.{answer_unread};
 ghost use Rattle.session_core.specs.Judging.{answer_to};

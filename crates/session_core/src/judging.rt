@@ -4,7 +4,7 @@ ghost use Rattle.std.specs.Str.{IsUtf8};
 ghost use Rattle.bsp_records.specs.Params.{IsTarget, HasCompileTexts};
 ghost use Rattle.bsp_records.specs.Shapes.{IsTextWithin};
 ghost use Rattle.serde_json.specs.View.{view};
-ghost use Rattle.session_law.specs.Methods.{initialize_verdict, asked_with, opening, answering, verdict, served_verdict, sources_verdict, sourced, inverse_verdict, compile_verdict, compiled, found_from, target_path};
+ghost use Rattle.session_law.specs.Methods.{initialize_verdict, asked_with, opening, answering, verdict, served_verdict, sources_verdict, sourced, inverse_verdict, compile_verdict, found_build, found_from, target_path, due_in};
 ghost use Rattle.session_law.specs.Questions.{inverse_of};
 ghost use Rattle.session_core.specs.Judging.{Judges, Fits, IsFoundAs, IsSaid, IsSaidOwed};
 ghost use Rattle.target_graph.specs.Address.{root_at};
@@ -34,8 +34,8 @@ pub fn judge(
     workspace: &Option<Workspace>,
     closed: bool,
 ) -> Result<Owed, NoMemory>
-    ensures judged { IfOk result (Judges workspace.now
-        (verdict method.now (option_map view params.now) workspace.now closed)) }
+    ensures judged { IfOk result (Judges workspace.now (due_in workspace.now
+        (verdict method.now (option_map view params.now) workspace.now closed))) }
     ensures short { IfOk result IsSaidOwed }
 {
     if b"build/initialize".as_slice() == method {
@@ -66,7 +66,7 @@ fn bad_at(alloc: Global, path: &[u8]) -> Result<Owed, NoMemory>
 }
 
 fn judge_initialize(alloc: Global, params: &Option<Value>) -> Result<Owed, NoMemory>
-    ensures judged { IfOk result (Judges None (initialize_verdict (option_map view params.now))) }
+    ensures judged { IfOk result (Judges None (due_in None (initialize_verdict (option_map view params.now)))) }
     ensures short { IfOk result IsSaidOwed }
 {
     match params {
@@ -81,7 +81,7 @@ fn judge_initialize(alloc: Global, params: &Option<Value>) -> Result<Owed, NoMem
 
 fn judge_root(alloc: Global, uri: &Text) -> Result<Owed, NoMemory>
     requires { IsTextWithin ROOT_LIMIT uri.now }
-    ensures judged { IfOk result (Judges None (asked_with None (root_at uri.now))) }
+    ensures judged { IfOk result (Judges None (due_in None (asked_with None (root_at uri.now)))) }
     ensures short { IfOk result IsSaidOwed }
 {
     match root_of(alloc, std::str::from_utf8(uri.as_slice()).unwrap()) {
@@ -98,8 +98,8 @@ fn judge_served(
     workspace: &Workspace,
     closed: bool,
 ) -> Result<Owed, NoMemory>
-    ensures judged { IfOk result (Judges (Some workspace.now)
-        (served_verdict method.now (option_map view params.now) workspace.now closed)) }
+    ensures judged { IfOk result (Judges (Some workspace.now) (due_in (Some workspace.now)
+        (served_verdict method.now (option_map view params.now) workspace.now closed))) }
     ensures short { IfOk result IsSaidOwed }
 {
     if closed {
@@ -124,8 +124,8 @@ fn judge_sources(
     params: &Option<Value>,
     workspace: &Workspace,
 ) -> Result<Owed, NoMemory>
-    ensures judged { IfOk result (Judges (Some workspace.now)
-        (sources_verdict workspace.now (option_map view params.now))) }
+    ensures judged { IfOk result (Judges (Some workspace.now) (due_in (Some workspace.now)
+        (sources_verdict workspace.now (option_map view params.now)))) }
     ensures short { IfOk result IsSaidOwed }
 {
     match params {
@@ -144,8 +144,8 @@ fn judge_listed(
     workspace: &Workspace,
 ) -> Result<Owed, NoMemory>
     requires { All IsTarget params.now.targets }
-    ensures judged { IfOk result (Judges (Some workspace.now)
-        (sourced workspace.now (found_from workspace.now 0 params.now.targets))) }
+    ensures judged { IfOk result (Judges (Some workspace.now) (due_in (Some workspace.now)
+        (sourced workspace.now (found_from workspace.now 0 params.now.targets)))) }
     ensures short { IfOk result IsSaidOwed }
 {
     match find_targets(alloc, params.targets.as_slice(), workspace)? {
@@ -159,8 +159,8 @@ fn judge_inverse(
     params: &Option<Value>,
     workspace: &Workspace,
 ) -> Result<Owed, NoMemory>
-    ensures judged { IfOk result (Judges (Some workspace.now)
-        (inverse_verdict workspace.now (option_map view params.now))) }
+    ensures judged { IfOk result (Judges (Some workspace.now) (due_in (Some workspace.now)
+        (inverse_verdict workspace.now (option_map view params.now)))) }
     ensures short { IfOk result IsSaidOwed }
 {
     match params {
@@ -188,8 +188,8 @@ fn judge_compile(
     params: &Option<Value>,
     workspace: &Workspace,
 ) -> Result<Owed, NoMemory>
-    ensures judged { IfOk result (Judges (Some workspace.now)
-        (compile_verdict workspace.now (option_map view params.now))) }
+    ensures judged { IfOk result (Judges (Some workspace.now) (due_in (Some workspace.now)
+        (compile_verdict (option_map view params.now)))) }
     ensures short { IfOk result IsSaidOwed }
 {
     match params {
@@ -209,7 +209,7 @@ fn judge_targets(
 ) -> Result<Owed, NoMemory>
     requires { HasCompileTexts params }
     ensures judged { IfOk result (Judges (Some workspace.now)
-        (compiled workspace.now params.origin_id (found_from workspace.now 0 params.targets))) }
+        (found_build workspace.now params.origin_id (found_from workspace.now 0 params.targets))) }
     ensures short { IfOk result IsSaidOwed }
 {
     match find_targets(alloc, params.targets.as_slice(), workspace)? {

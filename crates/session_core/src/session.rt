@@ -1,6 +1,6 @@
 ghost use Rattle.std.specs.Prelude.{IfOk};
 ghost use Rattle.session_law.specs.Methods.{asking};
-ghost use Rattle.session_law.specs.Past.{handed_over};
+ghost use Rattle.session_law.specs.Requests.{handed_over};
 ghost use Rattle.session_core.specs.Judging.{Fits, IsSaid};
 ghost use Rattle.session_core.specs.State.{handed_of};
 
@@ -46,14 +46,14 @@ impl Core {
     ghost use Rattle.std.specs.Prelude.{◌≡◌, ◌<◌, [], ◌∷◌, ◌↔◌, List, None, Ok, IsTrue, IfSome, IfNone, OnOk, OnErr, option_map};
     ghost use Rattle.rpc_peer.specs.Meaning.{meaning};
     ghost use Rattle.rpc_peer.specs.Said.{said, HasId, IsId};
-    ghost use Rattle.session_law.specs.Lawful.{IsFramed};
-    ghost use Rattle.session_law.specs.Methods.{asking, unreadable, verdict};
+    ghost use Rattle.session_law.specs.IsFramed.{IsFramed};
+    ghost use Rattle.session_law.specs.Methods.{asking, due_in, unreadable, verdict};
     ghost use Rattle.session_law.specs.Order.{Event, take, ends, hand, write};
     ghost use Rattle.session_core.specs.Acting.{Acts, ActsOnHand, Answers, AnswersUnread, Asks, Builds, BuildsOn, Ends, Plans, ServesAs, AnswersAs, Steps, Tells, exited_by};
     ghost use Rattle.session_core.specs.Reading.{AreReadable};
     ghost use Rattle.session_core.specs.Standing.{StandsFor, Awaits, Suits, IsFree, NeedsNothing, NeedsWhatItAwaits, IsQuiet, IsAlive, status_of, left_to_write};
     ghost use Rattle.session_core.specs.State.{handed_of, paths_of, state_of};
-    ghost use Rattle.session_law.specs.Past.{handed_over};
+    ghost use Rattle.session_law.specs.Requests.{handed_over};
     ghost use Rattle.serde_json.specs.View.{view};
 
     /// A session in which nothing happened yet.
@@ -205,8 +205,8 @@ impl Core {
     // Gives a request what it is owed, or keeps it until the tree was asked.
     fn serve(&mut self, id: Id, method: &Text, params: &Option<Value>) -> Result<(), NoMemory>
         requires { IsId id }
-        ensures ok { OnOk result (ServesAs self.old self.new id
-            (verdict method.now (option_map view params.now) self.old.workspace self.old.closed)) }
+        ensures ok { OnOk result (ServesAs self.old self.new id (due_in self.old.workspace
+            (verdict method.now (option_map view params.now) self.old.workspace self.old.closed))) }
         ensures alive { self.new.dead ≡ self.old.dead }
         ensures err { OnErr result (self.new.out.items ≡ self.old.out.items) }
     {

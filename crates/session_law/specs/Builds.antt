@@ -1,5 +1,5 @@
 -- A build: the documents that it is of, what the clean build finds in them, and what is written of that.
-use Rattle.std.specs.Prelude.{◌≡◌, ◌==◌, ◌++◌, ℕ, List, [], ◌∷◌, map, filter, codes, Bool, true, false, Option, Some, None, unwrap_or, if◌then◌else◌}
+use Rattle.std.specs.Prelude.{◌≡◌, ◌==◌, ◌++◌, Contains, ℕ, List, [], ◌∷◌, map, filter, codes, Bool, true, false, Option, Some, None, unwrap_or, if◌then◌else◌}
 use Rattle.std.specs.List.{All, list_any, fold}
 use Rattle.std.specs.Str.{bytes_eq}
 use Rattle.ob_text.specs.Code.{severity_of}
@@ -138,8 +138,15 @@ pub record Publishes (table : Table) (origin : Option (List ℕ)) (finding : Fin
   pub same : Shows table finding → messages ≡ []
   pub other : ¬ (Shows table finding) → messages ≡ list_said origin finding
 
--- what is published of several, one document after the other
-pub data PublishesAll (table : Table) (origin : Option (List ℕ)) : List Finding → List Said → Type 0 where
-  none : PublishesAll table origin [] []
-  one_more : {findings : List Finding} {messages : List Said} (finding : Finding) (own : List Said) → PublishesAll table origin findings messages
-      → Publishes (table_with messages table) origin finding own → PublishesAll table origin (findings ++ finding ∷ []) (messages ++ own)
+-- what is published of some documents, each at most once, one after the other
+pub data PublishesSome (table : Table) (origin : Option (List ℕ)) : List Finding → List Said → Type 0 where
+  none : PublishesSome table origin [] []
+  one_more : {done : List Finding} {messages : List Said} (finding : Finding) (own : List Said) → PublishesSome table origin done messages
+      → ¬ (Contains done finding) → Publishes (table_with messages table) origin finding own → PublishesSome table origin (done ++ finding ∷ []) (messages ++ own)
+
+-- the message publishes a list, or a piece of one
+abbrev pub is_publication : Said → Bool
+is_publication (notification method params) = is_named (codes "build/publishDiagnostics") method
+is_publication (request id method params) = false
+is_publication (result id value) = false
+is_publication (failure id code text) = false

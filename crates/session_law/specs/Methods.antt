@@ -85,21 +85,29 @@ name_behind (byte ∷ name) = codes " " ++ byte ∷ name
 abbrev pub refused_message : FaultKind → List ℕ → List ℕ
 refused_message kind name = codes "workspace refused: " ++ (kind_text kind ++ name_behind name)
 
--- ---- what a request is owed, judged as it is taken and once its files were handed out
+-- ---- what a request is owed: judged by its shape as it is taken, in the queue by its targets as it comes to the head,
+-- ---- and once its files were handed out
 
--- What a compile is of: targets of the workspace in force, by their places in its file, and the `originId`
+-- What a compile is of: targets of the workspace in force, by their index in its file, and the `originId`
 -- that was sent with it.
 pub record Build : Type 0 where
   pub space : Space
   pub asked : List ℕ
   pub origin : Option (List ℕ)
 
+-- What a request of the queue asks for.
+pub data Call : Type 0 where
+  -- a compile of these targets, with the `originId` that was sent with it
+  to_build : List BuildTargetIdentifier → Option (List ℕ) → Call
+
 pub data Verdict : Type 0 where
   -- an initialize with this root, that wants the workspace file
   asking : List ℕ → Verdict
   -- the same, once this was handed out for the file
   opening : List ℕ → Held → Verdict
-  -- a compile that wants its documents
+  -- a request of the queue, which is judged by its targets as it comes to the head
+  queued : Call → Verdict
+  -- a compile that was taken up and wants its documents
   building : Build → Verdict
   -- the same, once they were handed out
   built : Build → Entries → Verdict
@@ -140,43 +148,56 @@ initialize_verdict (Some d) = asked_with (bad_params initialize_params d) (root_
 
 -- ---- lists of targets
 
--- the path of the target that stands at this place in a list
+-- the path of the target that stands at this index of a list
 unfoldable pub target_path : ℕ → List ℕ
-target_path place = codes "targets[" ++ (decimal place ++ codes "].uri")
+target_path index = codes "targets[" ++ (decimal index ++ codes "].uri")
 
--- the targets that a list names, or the place of the first address that names none
+-- the targets that a list names, or the index of the first address that names none
 pub data Found : Type 0 where
   all_found : List ℕ → Found
   unknown_at : ℕ → Found
 
 abbrev pub found_first : Option ℕ → ℕ → Found → Found
-found_first None place others = unknown_at place
-found_first (Some target) place (all_found targets) = all_found (target ∷ targets)
-found_first (Some target) place (unknown_at later) = unknown_at later
+found_first None index others = unknown_at index
+found_first (Some target) index (all_found targets) = all_found (target ∷ targets)
+found_first (Some target) index (unknown_at later) = unknown_at later
 
 abbrev pub found_from : Space → ℕ → List BuildTargetIdentifier → Found
-found_from space place [] = all_found []
-found_from space place (id ∷ ids) = found_first (named space id.uri) place (found_from space (place + 1) ids)
+found_from space index [] = all_found []
+found_from space index (id ∷ ids) = found_first (named space id.uri) index (found_from space (index + 1) ids)
 
--- ---- compile
+-- ---- the queue: a call is judged by its shape as it is taken, and by its targets as it is taken up
 
-abbrev pub compiled : Space → Option (List ℕ) → Found → Verdict
-compiled space origin (all_found targets) = building (record { space = space; asked = targets; origin = origin })
-compiled space origin (unknown_at place) = bad_at (target_path place)
+abbrev pub compile_call : Option (List ℕ) → Data → Verdict
+compile_call (Some path) d = bad_at path
+compile_call None d = queued (to_build (compile_params_in d).targets (compile_params_in d).origin_id)
 
-abbrev pub compiled_with : Space → Option (List ℕ) → Data → Verdict
-compiled_with space (Some path) d = bad_at path
-compiled_with space None d = compiled space (compile_params_in d).origin_id (found_from space 0 (compile_params_in d).targets)
+abbrev pub compile_verdict : Option Data → Verdict
+compile_verdict None = bad_at (codes "params")
+compile_verdict (Some d) = compile_call (bad_params build_params d) d
 
-abbrev pub compile_verdict : Space → Option Data → Verdict
-compile_verdict space None = bad_at (codes "params")
-compile_verdict space (Some d) = compiled_with space (bad_params build_params d) d
+abbrev pub found_build : Space → Option (List ℕ) → Found → Verdict
+found_build space origin (all_found targets) = building (record { space = space; asked = targets; origin = origin })
+found_build space origin (unknown_at index) = bad_at (target_path index)
+
+-- what a call is owed that is taken up in this workspace
+abbrev pub taken_up : Call → Space → Verdict
+taken_up (to_build targets origin) space = found_build space origin (found_from space 0 targets)
+
+abbrev pub taken_in : Option Space → Call → Verdict
+taken_in (Some space) call = taken_up call space
+taken_in None call = queued call
+
+-- what the request at the head is owed, by the workspace in force
+abbrev pub due_in : Option Space → Verdict → Verdict
+due_in force (queued call) = taken_in force call
+due_in force v = v
 
 -- ---- questions about the workspace in force
 
 abbrev pub sourced : Space → Found → Verdict
 sourced space (all_found targets) = answering space (sources_of targets)
-sourced space (unknown_at place) = bad_at (target_path place)
+sourced space (unknown_at index) = bad_at (target_path index)
 
 abbrev pub sourced_with : Space → Option (List ℕ) → Data → Verdict
 sourced_with space (Some path) d = bad_at path
@@ -204,7 +225,7 @@ served_verdict method params space closed =
     else (if is_named (codes "workspace/buildTargets") method then answering space all_targets
     else (if is_named (codes "buildTarget/sources") method then sources_verdict space params
     else (if is_named (codes "buildTarget/inverseSources") method then inverse_verdict space params
-    else (if is_named (codes "buildTarget/compile") method then compile_verdict space params
+    else (if is_named (codes "buildTarget/compile") method then compile_verdict params
     else refusal method_not_found (codes "method not found"))))))
 
 abbrev pub verdict_in : Option Space → List ℕ → Option Data → Bool → Verdict

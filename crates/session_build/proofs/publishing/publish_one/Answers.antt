@@ -8,7 +8,7 @@ use Rattle.ob_text.specs.declared.diagnostic.Diagnostic.{Diagnostic}
 use Rattle.oberon_check.specs.Diagnosed.{Diagnosed}
 use Rattle.rpc_peer.specs.Said.{said}
 use Rattle.session_law.specs.Builds.{is_error_severity, publication_said}
-use Rattle.session_law.specs.Lawful.{IsFramed}
+use Rattle.session_law.specs.IsFramed.{IsFramed}
 use Rattle.session_build.specs.Handed.{held_or_absent}
 use Rattle.session_build.proofs.Publications.{one_shown, origin_within}
 use Rattle.task_stream.specs.Showing.{shows}

@@ -6,7 +6,7 @@ use Rattle.bsp_records.specs.declared.publishing.PublishDiagnosticsParams.{Publi
 use Rattle.rpc_peer.specs.Said.{Said, said}
 use Rattle.rpc_peer.specs.declared.message.Message.{Message}
 use Rattle.session_law.specs.Builds.{publication_said}
-use Rattle.session_law.specs.Lawful.{IsFramed}
+use Rattle.session_law.specs.IsFramed.{IsFramed}
 use Rattle.session_build.proofs.publishing.say_all.Goals as goal
 
 pub loop-publication-preserved : goal.loop-publication-preserved

@@ -2,7 +2,7 @@ use Rattle.std.proofs.Common.{◌≡◌, ◌++◌, map, take}
 use Rattle.std.specs.List.{All}
 use Rattle.rpc_peer.specs.Said.{said}
 use Rattle.session_law.specs.Builds.{publication_said}
-use Rattle.session_law.specs.Lawful.{IsFramed}
+use Rattle.session_law.specs.IsFramed.{IsFramed}
 use Rattle.session_build.proofs.publishing.say_all.Given as goal
 
 abbrev pub invariant-loop-publication : goal.invariant-loop-publication
