@@ -8,6 +8,7 @@ use Rattle.std.proofs.lemmas.Str.{IsUtf8-append, IsUtf8-from_ascii}
 use Rattle.std.proofs.lemmas.Int.{ints}
 use Rattle.std.proofs.lemmas.Fmt.{length-decimal-le}
 use Rattle.json.specs.Print.{quoted}
+use Rattle.serde_json.specs.View.{view}
 use Rattle.serde_json.specs.Data.{Data, null, number, object, Members, member, no_members, string}
 use Rattle.serde_json.specs.Find.{of_integer}
 use Rattle.serde_json.specs.Written.{compact_text, members_text, comma_if, has_float}
@@ -25,9 +26,9 @@ use Rattle.session_law.specs.Builds.{build_said, status_by}
 use Rattle.session_law.specs.IsFramed.{IsFramed}
 use Rattle.session_law.specs.Methods.{initialize_result, null_message, kind_text, name_behind}
 use Rattle.rpc_peer.specs.Meaning.{parse_error}
-use Rattle.session_core.specs.Judging.{answer_to, code_of, message_of, IsPrinted, IsSaid}
+use Rattle.session_core.specs.Judging.{answer_to, reason_code, reason_text, IsPrinted, IsSaid}
 use Rattle.session_core.specs.declared.verdicts.Answer.{Answer}
-use Rattle.session_core.specs.declared.verdicts.Answer.TheVariants.{Opening, Closing, Refused}
+use Rattle.session_core.specs.declared.verdicts.Answer.TheVariants.{Result, Opening, Closing, Refused}
 use Rattle.session_core.specs.declared.verdicts.Reason.{Reason}
 use Rattle.session_core.specs.declared.verdicts.Reason.TheVariants as reasons
 use Rattle.target_graph.specs.declared.fault.FaultKind.{FaultKind}
@@ -296,25 +297,25 @@ behind_short : (name : List ℕ) → length (name_behind name) ≤ 1 + length na
 behind_short [] = lit≤ tt
 behind_short (byte ∷ name) = omega arith
 
-code_fits : (reason : Reason) → FitsSigned w64 (code_of reason)
-code_fits reasons.NotInitialized = omega (arith, ints)
-code_fits reasons.Invalid = omega (arith, ints)
-code_fits reasons.Unknown = omega (arith, ints)
-code_fits (reasons.BadParams path) = omega (arith, ints)
-code_fits reasons.Unreadable = omega (arith, ints)
-code_fits (reasons.Workspace fault) = omega (arith, ints)
+code_fits : (reason : Reason) → FitsSigned w64 (reason_code reason)
+code_fits reasons.ServerNotInitialized = omega (arith, ints)
+code_fits reasons.InvalidRequest = omega (arith, ints)
+code_fits reasons.MethodNotFound = omega (arith, ints)
+code_fits (reasons.InvalidParams path) = omega (arith, ints)
+code_fits reasons.InternalError = omega (arith, ints)
+code_fits (reasons.WorkspaceRefused fault) = omega (arith, ints)
 
-framed_reason : (id : Id) (reason : Reason) → IsId id → IsSaid (Refused reason) → IsFramed (failure (Some id) (code_of reason) (message_of reason))
-framed_reason id reasons.NotInitialized h said = framed_refusal id _ _ h (code_fits reasons.NotInitialized) (literal_text (codes "server not initialized") refl) (lit≤ tt)
-framed_reason id reasons.Invalid h said = framed_refusal id _ _ h (code_fits reasons.Invalid) (literal_text (codes "invalid request") refl) (lit≤ tt)
-framed_reason id reasons.Unknown h said = framed_refusal id _ _ h (code_fits reasons.Unknown) (literal_text (codes "method not found") refl) (lit≤ tt)
-framed_reason id (reasons.BadParams path) h said =
-    framed_refusal id _ _ h (code_fits (reasons.BadParams path))
+framed_reason : (id : Id) (reason : Reason) → IsId id → IsSaid (Refused reason) → IsFramed (failure (Some id) (reason_code reason) (reason_text reason))
+framed_reason id reasons.ServerNotInitialized h said = framed_refusal id _ _ h (code_fits reasons.ServerNotInitialized) (literal_text (codes "server not initialized") refl) (lit≤ tt)
+framed_reason id reasons.InvalidRequest h said = framed_refusal id _ _ h (code_fits reasons.InvalidRequest) (literal_text (codes "invalid request") refl) (lit≤ tt)
+framed_reason id reasons.MethodNotFound h said = framed_refusal id _ _ h (code_fits reasons.MethodNotFound) (literal_text (codes "method not found") refl) (lit≤ tt)
+framed_reason id (reasons.InvalidParams path) h said =
+    framed_refusal id _ _ h (code_fits (reasons.InvalidParams path))
     (IsUtf8-append (codes "invalid params: ") path (literal_text (codes "invalid params: ") refl) (IsUtf8-from_ascii path said.plain))
     (let l = length-append (codes "invalid params: ") path in let s = said.short in omega (arith, l, s))
-framed_reason id reasons.Unreadable h said = framed_refusal id _ _ h (code_fits reasons.Unreadable) (literal_text (codes "sources unreadable") refl) (lit≤ tt)
-framed_reason id (reasons.Workspace fault) h said =
-    framed_refusal id _ _ h (code_fits (reasons.Workspace fault))
+framed_reason id reasons.InternalError h said = framed_refusal id _ _ h (code_fits reasons.InternalError) (literal_text (codes "sources unreadable") refl) (lit≤ tt)
+framed_reason id (reasons.WorkspaceRefused fault) h said =
+    framed_refusal id _ _ h (code_fits (reasons.WorkspaceRefused fault))
     (IsUtf8-append (codes "workspace refused: ") (kind_text fault.kind ++ name_behind fault.name) (literal_text (codes "workspace refused: ") refl)
     (IsUtf8-append (kind_text fault.kind) (name_behind fault.name) (kind_plain fault.kind) (behind_plain fault.name said.plain)))
     (let l = length-append (codes "workspace refused: ") (kind_text fault.kind ++ name_behind fault.name) in
@@ -340,6 +341,7 @@ framed_unread code h =
     }
 
 pub framed_answer : (id : Id) (answer : Answer) → IsId id → IsSaid answer → IsFramed (answer_to id answer)
+framed_answer id (Result value) h said = framed_result id (view value) h said
 framed_answer id (Opening space) h said = framed_opening id h
 framed_answer id Closing h said = framed_closing id h
 framed_answer id (Refused reason) h said = framed_reason id reason h said

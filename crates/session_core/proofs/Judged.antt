@@ -14,51 +14,51 @@ use Rattle.target_graph.specs.Workspace.{Space, named}
 -- what is found behind these targets
 abbrev pub after : List ℕ → Found → Found
 after asked (all_found targets) = all_found (asked ++ targets)
-after asked (unknown_at place) = unknown_at place
+after asked (unknown_at index) = unknown_at index
 
 after_nothing : (found : Found) → found ≡ after [] found
 after_nothing (all_found targets) = refl
-after_nothing (unknown_at place) = refl
+after_nothing (unknown_at index) = refl
 
-after_one : (asked : List ℕ) (target place : ℕ) (found : Found) → after asked (found_first (Some target) place found) ≡ after (asked ++ target ∷ []) found
-after_one asked target place (all_found targets) = ap all_found (sym (append_assoc asked (target ∷ []) targets))
-after_one asked target place (unknown_at later) = refl
+after_one : (asked : List ℕ) (target index : ℕ) (found : Found) → after asked (found_first (Some target) index found) ≡ after (asked ++ target ∷ []) found
+after_one asked target index (all_found targets) = ap all_found (sym (append_assoc asked (target ∷ []) targets))
+after_one asked target index (unknown_at later) = refl
 
 -- the first targets are found
-pub record FindsTo (space : Space) (ids : List BuildTargetIdentifier) (place : ℕ) (asked : List ℕ) : Type 0 where
-  pub found : found_from space 0 ids ≡ after asked (found_from space place (drop place ids))
+pub record FindsTo (space : Space) (ids : List BuildTargetIdentifier) (index : ℕ) (asked : List ℕ) : Type 0 where
+  pub found : found_from space 0 ids ≡ after asked (found_from space index (drop index ids))
   pub within : All (λ target. target < length space.targets) asked
 
 module _ (space : Space) (ids : List BuildTargetIdentifier) where
   pub finds_none : found_from space 0 ids ≡ after [] (found_from space 0 (drop 0 ids))
   finds_none = after_nothing (found_from space 0 ids)
 
-  next : (place : ℕ) (d : BuildTargetIdentifier) → place < length ids
-      → found_from space place (drop place ids) ≡ found_first (named space (get_or ids place d).uri) place (found_from space (place + 1) (drop (place + 1) ids))
-  next place d h = ap (found_from space place) (drop_more ids place d h)
+  next : (index : ℕ) (d : BuildTargetIdentifier) → index < length ids
+      → found_from space index (drop index ids) ≡ found_first (named space (get_or ids index d).uri) index (found_from space (index + 1) (drop (index + 1) ids))
+  next index d h = ap (found_from space index) (drop_more ids index d h)
 
-  pub finds_more : (place : ℕ) (asked : List ℕ) (d : BuildTargetIdentifier) (target : ℕ) → place < length ids → named space (get_or ids place d).uri ≡ Some target
-      → found_from space 0 ids ≡ after asked (found_from space place (drop place ids)) → found_from space 0 ids ≡ after (asked ++ target ∷ []) (found_from space (place + 1) (drop (place + 1) ids))
-  finds_more place asked d target h is found =
-      found ∙ ap (after asked) (next place d h ∙ ap (λ o. found_first o place (found_from space (place + 1) (drop (place + 1) ids))) is)
-      ∙ after_one asked target place (found_from space (place + 1) (drop (place + 1) ids))
+  pub finds_more : (index : ℕ) (asked : List ℕ) (d : BuildTargetIdentifier) (target : ℕ) → index < length ids → named space (get_or ids index d).uri ≡ Some target
+      → found_from space 0 ids ≡ after asked (found_from space index (drop index ids)) → found_from space 0 ids ≡ after (asked ++ target ∷ []) (found_from space (index + 1) (drop (index + 1) ids))
+  finds_more index asked d target h is found =
+      found ∙ ap (after asked) (next index d h ∙ ap (λ o. found_first o index (found_from space (index + 1) (drop (index + 1) ids))) is)
+      ∙ after_one asked target index (found_from space (index + 1) (drop (index + 1) ids))
 
-  pub finds_unknown : (place : ℕ) (asked : List ℕ) (d : BuildTargetIdentifier) → place < length ids → named space (get_or ids place d).uri ≡ None
-      → found_from space 0 ids ≡ after asked (found_from space place (drop place ids)) → found_from space 0 ids ≡ unknown_at place
-  finds_unknown place asked d h is found =
-      found ∙ ap (after asked) (next place d h ∙ ap (λ o. found_first o place (found_from space (place + 1) (drop (place + 1) ids))) is)
+  pub finds_unknown : (index : ℕ) (asked : List ℕ) (d : BuildTargetIdentifier) → index < length ids → named space (get_or ids index d).uri ≡ None
+      → found_from space 0 ids ≡ after asked (found_from space index (drop index ids)) → found_from space 0 ids ≡ unknown_at index
+  finds_unknown index asked d h is found =
+      found ∙ ap (after asked) (next index d h ∙ ap (λ o. found_first o index (found_from space (index + 1) (drop (index + 1) ids))) is)
 
-  pub finds_all : (place : ℕ) (asked : List ℕ) → drop place ids ≡ [] → found_from space 0 ids ≡ after asked (found_from space place (drop place ids)) → found_from space 0 ids ≡ all_found asked
-  finds_all place asked nothing found = found ∙ ap (λ rest. after asked (found_from space place rest)) nothing ∙ ap all_found (append-nil asked)
+  pub finds_all : (index : ℕ) (asked : List ℕ) → drop index ids ≡ [] → found_from space 0 ids ≡ after asked (found_from space index (drop index ids)) → found_from space 0 ids ≡ all_found asked
+  finds_all index asked nothing found = found ∙ ap (λ rest. after asked (found_from space index rest)) nothing ∙ ap all_found (append-nil asked)
 
-pub short_path : (place : ℕ) → place < 2 ^ 64 → IsShort (target_path place)
+pub short_path : (index : ℕ) → index < 2 ^ 64 → IsShort (target_path index)
 unfolding target_path
-short_path place h =
-    let digits : length (decimal place) ≤ 20 = length-decimal-le 20 place (omega arith) (omega arith) h in
-    let front = length-append (codes "targets[") (decimal place ++ codes "].uri") in
-    let back = length-append (decimal place) (codes "].uri") in
+short_path index h =
+    let digits : length (decimal index) ≤ 20 = length-decimal-le 20 index (omega arith) (omega arith) h in
+    let front = length-append (codes "targets[") (decimal index ++ codes "].uri") in
+    let back = length-append (decimal index) (codes "].uri") in
     record {
-      plain = IsAscii-append (codes "targets[") (decimal place ++ codes "].uri") (literal_ascii (codes "targets[") refl)
-          (IsAscii-append (decimal place) (codes "].uri") (IsAscii-decimal place h) (literal_ascii (codes "].uri") refl));
+      plain = IsAscii-append (codes "targets[") (decimal index ++ codes "].uri") (literal_ascii (codes "targets[") refl)
+          (IsAscii-append (decimal index) (codes "].uri") (IsAscii-decimal index h) (literal_ascii (codes "].uri") refl));
       short = omega (arith, digits, front, back);
     }

@@ -3,6 +3,7 @@ pub mod Judged
 pub mod Literals
 pub mod Owing
 pub mod Publications
+pub mod Serving
 pub mod StandingLaws
 pub mod Steps
 pub mod Writes

@@ -2,6 +2,7 @@
 use Rattle.std.proofs.Common.{◌≡◌, ◌||◌, ℕ, ℤ, List, [], ◌∷◌, Bool, true, false, Option, Some, None, refl, ap, sym, ◌∙◌, subst}
 use Rattle.ob_text.specs.declared.held.Held.{Held}
 use Rattle.serde_json.specs.Data.{Data, null}
+use Rattle.serde_json.specs.View.{view}
 use Rattle.rpc_peer.specs.declared.message.Id.{Id}
 use Rattle.rpc_peer.specs.Said.{result, failure, IsId}
 use Rattle.session_law.specs.IsFramed.{IsFramed}
@@ -9,9 +10,10 @@ use Rattle.session_law.specs.Lawful.{Lawful, WriteAllowed}
 use Rattle.session_law.specs.Methods.{Verdict, asking, opening, queued, building, built, answering, closing, refusal, initialize_result}
 use Rattle.session_law.specs.Order.{Event, write}
 use Rattle.session_law.specs.Past.{after, closes, force_by, space_in}
+use Rattle.session_law.specs.Questions.{Question, IsAnswer}
 use Rattle.session_law.specs.RefusesExactly.{IsRefused}
 use Rattle.session_core.specs.Acting.{answer_unread, answered, paths_in}
-use Rattle.session_core.specs.Judging.{answer_to, code_of, message_of, Fits, IsPlanOf, IsReply}
+use Rattle.session_core.specs.Judging.{answer_to, reason_code, reason_text, Fits, IsPlanOf}
 use Rattle.session_core.specs.Plans.{Plan, build_in}
 use Rattle.session_core.specs.State.{Base, Standing, State, building_in, owed, workspace_need}
 use Rattle.session_core.specs.Standing.{Keeps, AreIn, AreOpen, WantsOf}
@@ -115,39 +117,38 @@ gives_closing id base status past o framed =
     (by_result id closing null base status past refl o allowed)
 
 -- a question about the workspace in force is answered
-pub gives_result : (id : Id) (v : Verdict) (value : Data) (base : Base) (status : Option ℕ) (past : List Event) → IsReply v value → Owes base status (owed id v) [] past
-    → IsFramed (result (Some id) value) → Keeps false (idle base status) (write (result (Some id) value) ∷ past)
-gives_result id (answering space question) value base status past answers o framed =
+gives_result : (id : Id) (space : Space) (question : Question) (value : Data) (base : Base) (status : Option ℕ) (past : List Event) → IsAnswer space question value
+    → Owes base status (owed id (answering space question)) [] past → IsFramed (result (Some id) value) → Keeps false (idle base status) (write (result (Some id) value) ∷ past)
+gives_result id space question value base status past answers o framed =
     let allowed = allowed_result (after past) id (answering space question) o.requests_are value answers refl framed in
     subst (λ closed. Keeps false (idle (record base { closed = closed }) status) (write (result (Some id) value) ∷ past)) (same_or base.closed)
     (by_result id (answering space question) value base status past refl o allowed)
-gives_result id (asking root) value base status past answers o framed = absurd answers
-gives_result id (opening root file) value base status past answers o framed = absurd answers
-gives_result id (queued call) value base status past answers o framed = absurd answers
-gives_result id (building build) value base status past answers o framed = absurd answers
-gives_result id (built build entries) value base status past answers o framed = absurd answers
-gives_result id closing value base status past answers o framed = absurd answers
-gives_result id (refusal code text) value base status past answers o framed = absurd answers
 
 -- one request is owed an answer, and is given it
 pub gives : (id : Id) (v : Verdict) (answer : Answer) (base : Base) (status : Option ℕ) (past : List Event) → Fits v answer → Owes base status (owed id v) [] past
     → IsFramed (answer_to id answer) → Keeps false (answered (idle base status) answer) (write (answer_to id answer) ∷ past)
-gives id (asking root) answer base status past fits o framed = absurd fits
-gives id (opening root file) (answers.Opening space) base status past fits o framed = gives_opening id root file space base status past fits o framed
-gives id (opening root file) answers.Closing base status past fits o framed = absurd fits
-gives id (opening root file) (answers.Refused reason) base status past fits o framed =
-    gives_refusal id (opening root file) (code_of reason) (message_of reason) base status past o fits framed
-gives id (queued call) answer base status past fits o framed = absurd fits
-gives id (building build) answer base status past fits o framed = absurd fits
-gives id (built build entries) answer base status past fits o framed = absurd fits
-gives id (answering space question) answer base status past fits o framed = absurd fits
+gives id (answering space question) (answers.Result value) base status past fits o framed = gives_result id space question (view value) base status past fits o framed
+gives id (answering space question) (answers.Opening space2) base status past fits o framed = absurd fits
+gives id (answering space question) answers.Closing base status past fits o framed = absurd fits
+gives id (answering space question) (answers.Refused reason) base status past fits o framed = absurd fits
+gives id closing (answers.Result value) base status past fits o framed = absurd fits
 gives id closing (answers.Opening space) base status past fits o framed = absurd fits
 gives id closing answers.Closing base status past fits o framed = gives_closing id base status past o framed
 gives id closing (answers.Refused reason) base status past fits o framed = absurd fits
+gives id (opening root file) (answers.Result value) base status past fits o framed = absurd fits
+gives id (opening root file) (answers.Opening space) base status past fits o framed = gives_opening id root file space base status past fits o framed
+gives id (opening root file) answers.Closing base status past fits o framed = absurd fits
+gives id (opening root file) (answers.Refused reason) base status past fits o framed =
+    gives_refusal id (opening root file) (reason_code reason) (reason_text reason) base status past o fits framed
+gives id (refusal code text) (answers.Result value) base status past fits o framed = absurd fits
 gives id (refusal code text) (answers.Opening space) base status past fits o framed = absurd fits
 gives id (refusal code text) answers.Closing base status past fits o framed = absurd fits
 gives id (refusal code text) (answers.Refused reason) base status past fits o framed =
-    gives_refusal id (refusal code text) (code_of reason) (message_of reason) base status past o fits framed
+    gives_refusal id (refusal code text) (reason_code reason) (reason_text reason) base status past o fits framed
+gives id (asking root) answer base status past fits o framed = absurd fits
+gives id (queued call) answer base status past fits o framed = absurd fits
+gives id (building build) answer base status past fits o framed = absurd fits
+gives id (built build entries) answer base status past fits o framed = absurd fits
 
 -- one code is owed with the id null, and is given
 pub gives_unread : (code : ℤ) (base : Base) (status : Option ℕ) (past : List Event) → Owes base status None (code ∷ []) past → IsFramed (answer_unread code)

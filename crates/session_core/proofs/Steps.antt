@@ -5,7 +5,6 @@ use Rattle.rpc_peer.specs.declared.message.Id.{Id}
 use Rattle.rpc_peer.specs.declared.message.Message.{Message}
 use Rattle.rpc_peer.specs.Meaning.{meaning, parse_error}
 use Rattle.rpc_peer.specs.Said.{Said, said, request, notification, result, failure, IsId}
-use Rattle.serde_json.specs.View.{view}
 use Rattle.session_law.specs.declared.InputEnd.TheVariants.{Border, Damaged, Failed}
 use Rattle.session_law.specs.declared.InputEnd.{InputEnd}
 use Rattle.session_law.specs.Builds.{ArePlaces, CleanBuild, build_answer, build_said, table_with}
@@ -16,8 +15,8 @@ use Rattle.session_law.specs.Methods.{Verdict, asking, opening, queued, building
 use Rattle.session_law.specs.Order.{Entries, Event, take, ends, hand, write}
 use Rattle.session_law.specs.Past.{after, exit_status, nulls_for, nulls_for_end, end_status}
 use Rattle.session_law.specs.Requests.{Asked, WantedBy, Wants, all_marked, first_up, handed_by, handed_over, opened_by}
-use Rattle.session_core.specs.Acting.{answer_unread, answered, paths_in, Answers, AnswersAs, Builds, BuildsOn, Steps, Serves, Acts, ActsOnHand, Ends, exited_by}
-use Rattle.session_core.specs.Judging.{answer_to, IsSaidOwed, Judges}
+use Rattle.session_core.specs.Acting.{Deed, answers_by, asks_at, plans_by, Does, DeedFits, answer_unread, answered, paths_in, Answers, AnswersAs, Builds, BuildsOn, Steps, Acts, ActsOnHand, Ends, exited_by}
+use Rattle.session_core.specs.Judging.{answer_to}
 use Rattle.session_core.specs.Plans.{Plan, build_in}
 use Rattle.session_core.specs.State.{Base, Standing, State, base_of, state_of, asked_by, owed, handed_of, workspace_need}
 use Rattle.session_core.specs.Standing.{AreOpen, IsOnly, Knows, Keeps, NeedFits, PlanFits, Suits, WantsOf, onto}
@@ -27,13 +26,11 @@ use Rattle.session_core.specs.declared.awaiting.Need.{Need}
 use Rattle.session_core.specs.declared.awaiting.Need.TheVariants as needs
 use Rattle.session_core.specs.declared.session.Core.{Core}
 use Rattle.session_core.specs.declared.verdicts.Answer.TheVariants as answers
-use Rattle.session_core.specs.declared.verdicts.Owed.{Owed}
-use Rattle.session_core.specs.declared.verdicts.Owed.TheVariants as owing
 use Rattle.session_core.specs.declared.verdicts.Reason.TheVariants as reasons
 use Rattle.target_graph.specs.Workspace.{Space}
 use Rattle.task_stream.specs.Showing.{shows}
-use Rattle.session_core.proofs.Framing.{framed_answer, framed_build, framed_result}
-use Rattle.session_core.proofs.Owing.{Owes, idle, gives, gives_unread, gives_none, gives_result, keeps_asking, keeps_building}
+use Rattle.session_core.proofs.Framing.{framed_answer, framed_build}
+use Rattle.session_core.proofs.Owing.{Owes, idle, gives, gives_unread, gives_none, keeps_asking, keeps_building}
 use Rattle.session_core.proofs.Publications.{gives_build}
 use Rattle.session_core.proofs.StandingLaws.{before, caught_up}
 
@@ -170,29 +167,24 @@ module _ (old new : Core) (order : List Event) (quiet : old.out.items ≡ []) (a
     state_is = idle_is old order alive none free keeps
 
     -- a request was taken that is owed this
-    by_owed : (event : Event) (id : Id) (v : Verdict) (o : Owed) → Judges base.force v o → IsSaidOwed o → IsId id → Owes base None (owed id v) [] (event ∷ order)
-        → Serves old new id o → Next event
-    by_owed event id v (owing.Asking root) judged short named owes acts =
-        steps old new _ [] (event ∷ order) acts quiet alive
-        (subst (λ state. Keeps false (record state { awaiting = Some (awaits.Opening id root); need = Some workspace_need }) (event ∷ order)) (sym state_is)
-        (keeps_asking id root base None (event ∷ order) (subst (λ u. Owes base None (owed id u) [] (event ∷ order)) judged owes)))
-    by_owed event id v (owing.Building plan) judged short named owes acts =
-        steps old new _ [] (event ∷ order) acts quiet alive
-        (subst (λ state. Keeps false (record state { awaiting = Some (awaits.Building id plan); need = Some (needs.Tree (paths_in plan)) }) (event ∷ order)) (sym state_is)
-        (keeps_building id plan v base None (event ∷ order) judged owes))
-    by_owed event id v (owing.Result value) judged short named owes acts =
-        steps old new _ (result (Some id) (view value) ∷ []) (event ∷ order) acts quiet alive
-        (subst (λ state. Keeps false state (write (result (Some id) (view value)) ∷ event ∷ order)) (sym state_is)
-        (gives_result id v (view value) base None (event ∷ order) judged owes (framed_result id (view value) named short)))
-    by_owed event id v (owing.Answer answer) judged short named owes acts =
+    by_deed : (event : Event) (id : Id) (v : Verdict) (deed : Deed) → DeedFits base.force v deed → IsId id → Owes base None (owed id v) [] (event ∷ order) → Does old new id deed → Next event
+    by_deed event id v (answers_by answer) fits named owes acts =
         steps old new _ (answer_to id answer ∷ []) (event ∷ order) acts quiet alive
         (subst (λ state. Keeps false (answered state answer) (write (answer_to id answer) ∷ event ∷ order)) (sym state_is)
-        (gives id v answer base None (event ∷ order) judged owes (framed_answer id answer named short)))
+        (gives id v answer base None (event ∷ order) fits.0 owes (framed_answer id answer named fits.1)))
+    by_deed event id v (asks_at root) fits named owes acts =
+        steps old new _ [] (event ∷ order) acts quiet alive
+        (subst (λ state. Keeps false (record state { awaiting = Some (awaits.Opening id root); need = Some workspace_need }) (event ∷ order)) (sym state_is)
+        (keeps_asking id root base None (event ∷ order) (subst (λ u. Owes base None (owed id u) [] (event ∷ order)) fits owes)))
+    by_deed event id v (plans_by plan) fits named owes acts =
+        steps old new _ [] (event ∷ order) acts quiet alive
+        (subst (λ state. Keeps false (record state { awaiting = Some (awaits.Building id plan); need = Some (needs.Tree (paths_in plan)) }) (event ∷ order)) (sym state_is)
+        (keeps_building id plan v base None (event ∷ order) fits owes))
 
     pub acted : (body : List ℕ) (meant : Result Said ℤ) → meaning body ≡ meant → Acts old new meant → Next (take body)
     acted body (Ok (request id method params)) means acts =
         let owes = taken base order keeps.lawful rests body (Ok (request id method params)) means acts.named in
-        by_owed (take body) id (due_in base.force (verdict method params base.force base.closed)) acts.owed acts.judged acts.short acts.named owes acts.serves
+        by_deed (take body) id (due_in base.force (verdict method params base.force base.closed)) acts.deed acts.fits acts.named owes acts.does
     acted body (Ok (notification method params)) means acts =
         let owes = taken base order keeps.lawful rests body (Ok (notification method params)) means tt in
         steps old new _ [] (take body ∷ order) acts quiet alive (subst (λ state. Keeps false (record state { status = exited_by method old.closed old.status }) (take body ∷ order)) (sym state_is)
@@ -326,13 +318,13 @@ module _ (old new : Core) (order : List Event) (quiet : old.out.items ≡ []) (a
     acted_on_hand (Some (awaits.Building id plan)) is acts = builds_on id plan old.workspace (handed_of got) refl refl is acts
 
 -- a build whose documents couldn't be handed out is refused
-pub refuses_unread : (old new : Core) (id : Id) → old.awaiting ≡ None → Answers old new id (answers.Refused reasons.Unreadable) → AnswersAs old new id unreadable
+pub refuses_unread : (old new : Core) (id : Id) → old.awaiting ≡ None → Answers old new id (answers.Refused reasons.InternalError) → AnswersAs old new id unreadable
 refuses_unread old new id free acts =
     record {
-      answer = answers.Refused reasons.Unreadable;
+      answer = answers.Refused reasons.InternalError;
       fits = (refl, refl);
       short = tt;
-      answers = subst (λ a. Steps old new (record (state_of old) { awaiting = a }) (answer_to id (answers.Refused reasons.Unreadable) ∷ [])) free acts;
+      answers = subst (λ a. Steps old new (record (state_of old) { awaiting = a }) (answer_to id (answers.Refused reasons.InternalError) ∷ [])) free acts;
     }
 
 -- ---- either way

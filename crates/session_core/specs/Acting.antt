@@ -8,8 +8,6 @@ use Rattle.ob_text.specs.declared.held.Snapshot.{Snapshot}
 use Rattle.rpc_peer.specs.declared.message.Id.{Id}
 use Rattle.rpc_peer.specs.Said.{Said, said, request, notification, result, failure, IsId}
 use Rattle.rpc_peer.specs.Meaning.{parse_error}
-use Rattle.serde_json.specs.Data.{Data}
-use Rattle.serde_json.specs.View.{view}
 use Rattle.session_build.specs.Publishing.{IsPublished}
 use Rattle.session_law.specs.Builds.{build_said}
 use Rattle.session_law.specs.IsFramed.{IsFramed}
@@ -19,7 +17,7 @@ use Rattle.session_law.specs.Order.{Entries}
 use Rattle.session_law.specs.Requests.{handed_over}
 use Rattle.session_law.specs.declared.InputEnd.{InputEnd}
 use Rattle.session_law.specs.declared.InputEnd.TheVariants.{Border, Damaged, Failed}
-use Rattle.session_core.specs.Judging.{Fits, Judges, IsSaid, IsSaidOwed, answer_to}
+use Rattle.session_core.specs.Judging.{Fits, IsPlanOf, IsSaid, answer_to}
 use Rattle.session_core.specs.Plans.{Plan}
 use Rattle.session_core.specs.State.{Base, State, base_of, state_of, handed_of, workspace_need}
 use Rattle.session_core.specs.declared.awaiting.Awaiting.{Awaiting}
@@ -28,8 +26,7 @@ use Rattle.session_core.specs.declared.awaiting.Need.TheVariants as needs
 use Rattle.session_core.specs.declared.session.Core.{Core}
 use Rattle.session_core.specs.declared.verdicts.Answer.{Answer}
 use Rattle.session_core.specs.declared.verdicts.Answer.TheVariants as answers
-use Rattle.session_core.specs.declared.verdicts.Owed.{Owed}
-use Rattle.session_core.specs.declared.verdicts.Owed.TheVariants as owing
+use Rattle.target_graph.specs.Workspace.{Space}
 use Rattle.task_stream.specs.Showing.{shows}
 
 -- the response with the id null and this code
@@ -44,6 +41,7 @@ pub record Steps (old new : Core) (state : State) (messages : List Said) : Type 
 
 -- what is kept once a request was given this answer
 abbrev pub base_with : Base → Answer → Base
+base_with base (answers.Result value) = base
 base_with base (answers.Opening space) = record base { force = Some space }
 base_with base answers.Closing = record base { closed = true }
 base_with base (answers.Refused reason) = base
@@ -67,16 +65,22 @@ abbrev pub Plans : Core → Core → Id → Plan → Type 0
 Plans old new id plan =
     Steps old new (record (state_of old) { awaiting = Some (awaits.Building id plan); need = Some (needs.Tree (paths_in plan)) }) []
 
--- the core gives a request this result, and keeps what it is
-abbrev pub Tells : Core → Core → Id → Data → Type 0
-Tells old new id value = Steps old new (state_of old) (result (Some id) value ∷ [])
+-- What the core does with a request: it answers it, or keeps it until the tree answered.
+pub data Deed : Type 0 where
+  answers_by : Answer → Deed
+  asks_at : List ℕ → Deed
+  plans_by : Plan → Deed
 
--- the core gives a request what it is owed, or keeps it
-abbrev pub Serves : Core → Core → Id → Owed → Type 0
-Serves old new id (owing.Asking root) = Asks old new id root
-Serves old new id (owing.Building plan) = Plans old new id plan
-Serves old new id (owing.Result value) = Tells old new id (view value)
-Serves old new id (owing.Answer answer) = Answers old new id answer
+-- it is what the request is owed
+abbrev pub DeedFits : Option Space → Verdict → Deed → Type 0
+DeedFits force v (answers_by answer) = Fits v answer × IsSaid answer
+DeedFits force v (asks_at root) = v ≡ asking root
+DeedFits force v (plans_by plan) = IsPlanOf force v plan
+
+abbrev pub Does : Core → Core → Id → Deed → Type 0
+Does old new id (answers_by answer) = Answers old new id answer
+Does old new id (asks_at root) = Asks old new id root
+Does old new id (plans_by plan) = Plans old new id plan
 
 -- the core answers this code with the id null
 abbrev pub AnswersUnread : Core → Core → ℤ → Type 0
@@ -89,10 +93,9 @@ exited_by method closed status = if is_named (codes "build/exit") method then So
 -- the core acts on a request that is owed this
 pub record ServesAs (old new : Core) (id : Id) (v : Verdict) : Type 0 where
   pub named : IsId id
-  pub owed : Owed
-  pub judged : Judges old.workspace v owed
-  pub short : IsSaidOwed owed
-  pub serves : Serves old new id owed
+  pub deed : Deed
+  pub fits : DeedFits old.workspace v deed
+  pub does : Does old new id deed
 
 -- the core acts on a body that means this
 abbrev pub Acts : Core → Core → Result Said ℤ → Type 0

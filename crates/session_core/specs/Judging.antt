@@ -1,52 +1,68 @@
 -- What the core finds a request to be owed, in the words of the law.
-use Rattle.std.specs.Prelude.{◌≡◌, ◌≤◌, ◌++◌, ℕ, ℤ, List, length, codes, false, Option, Some, Result, Ok, Err, Vec}
+use Rattle.std.specs.Prelude.{◌≡◌, ◌≤◌, ◌++◌, ℕ, ℤ, List, length, codes, false, Option, Some, IsSome, Result, Ok, Err, Vec}
 use Rattle.std.specs.declared.alloc.Global.{Global}
 use Rattle.std.specs.Str.{IsAscii}
 use Rattle.rpc_peer.specs.Meaning.{invalid_request}
 use Rattle.rpc_peer.specs.Said.{Said, result, failure}
 use Rattle.rpc_peer.specs.declared.message.Id.{Id}
+use Rattle.bsp_records.specs.Params.{HasCompileTexts}
 use Rattle.bsp_records.specs.ShortAnswers.{answer_limit}
 use Rattle.serde_json.specs.Data.{Data, null}
 use Rattle.serde_json.specs.View.{view}
 use Rattle.serde_json.specs.Written.{compact_text, has_float}
 use Rattle.session_law.specs.Builds.{ArePlaces}
-use Rattle.session_law.specs.RefusesExactly.{IsNoWorkspace}
+use Rattle.session_law.specs.Methods.{Verdict, asking, opening, queued, building, answering, closing, refusal, Call, to_build, Found, all_found, unknown_at, refused_message, initialize_result, method_not_found, sources_unreadable, not_initialized, invalid_params, workspace_refused}
 use Rattle.session_law.specs.Questions.{IsAnswer}
+use Rattle.session_law.specs.RefusesExactly.{IsNoWorkspace}
 use Rattle.session_core.specs.Plans.{Plan, build_in}
-use Rattle.target_graph.specs.Faults.{Accepted}
-use Rattle.target_graph.specs.Workspace.{Space}
-use Rattle.session_law.specs.Methods.{Verdict, asking, opening, building, answering, closing, refusal, Found, all_found, unknown_at, refused_message, initialize_result, method_not_found, sources_unreadable, not_initialized, invalid_params, workspace_refused}
 use Rattle.session_core.specs.declared.verdicts.Answer.{Answer}
 use Rattle.session_core.specs.declared.verdicts.Answer.TheVariants as answers
 use Rattle.session_core.specs.declared.verdicts.Owed.{Owed}
 use Rattle.session_core.specs.declared.verdicts.Owed.TheVariants as owing
+use Rattle.session_core.specs.declared.verdicts.Queued.{Queued}
+use Rattle.session_core.specs.declared.verdicts.Queued.TheVariants.{Build}
 use Rattle.session_core.specs.declared.verdicts.Reason.{Reason}
 use Rattle.session_core.specs.declared.verdicts.Reason.TheVariants as reasons
+use Rattle.session_core.specs.declared.verdicts.TakenUp.{TakenUp}
+use Rattle.session_core.specs.declared.verdicts.TakenUp.TheVariants as ups
+use Rattle.target_graph.specs.Faults.{Accepted}
+use Rattle.target_graph.specs.Workspace.{Space}
 
 -- the code of a refusal, and its message
-abbrev pub code_of : Reason → ℤ
-code_of reasons.NotInitialized = not_initialized
-code_of reasons.Invalid = invalid_request
-code_of reasons.Unknown = method_not_found
-code_of (reasons.BadParams path) = invalid_params
-code_of reasons.Unreadable = sources_unreadable
-code_of (reasons.Workspace fault) = workspace_refused
+abbrev pub reason_code : Reason → ℤ
+reason_code reasons.ServerNotInitialized = not_initialized
+reason_code reasons.InvalidRequest = invalid_request
+reason_code reasons.MethodNotFound = method_not_found
+reason_code (reasons.InvalidParams path) = invalid_params
+reason_code reasons.InternalError = sources_unreadable
+reason_code (reasons.WorkspaceRefused fault) = workspace_refused
 
-abbrev pub message_of : Reason → List ℕ
-message_of reasons.NotInitialized = codes "server not initialized"
-message_of reasons.Invalid = codes "invalid request"
-message_of reasons.Unknown = codes "method not found"
-message_of (reasons.BadParams path) = codes "invalid params: " ++ path
-message_of reasons.Unreadable = codes "sources unreadable"
-message_of (reasons.Workspace fault) = refused_message fault.kind fault.name
+abbrev pub reason_text : Reason → List ℕ
+reason_text reasons.ServerNotInitialized = codes "server not initialized"
+reason_text reasons.InvalidRequest = codes "invalid request"
+reason_text reasons.MethodNotFound = codes "method not found"
+reason_text (reasons.InvalidParams path) = codes "invalid params: " ++ path
+reason_text reasons.InternalError = codes "sources unreadable"
+reason_text (reasons.WorkspaceRefused fault) = refused_message fault.kind fault.name
 
 -- the answer gives a request what it is owed
 abbrev pub Fits : Verdict → Answer → Type 0
+Fits (answering space question) (answers.Result value) = IsAnswer space question (view value)
 Fits closing answers.Closing = Unit {0}
 Fits (opening root file) (answers.Opening space) = Accepted file root space
-Fits (opening root file) (answers.Refused reason) = IsNoWorkspace file (code_of reason) (message_of reason)
-Fits (refusal code text) (answers.Refused reason) = (code_of reason ≡ code) × (message_of reason ≡ text)
+Fits (opening root file) (answers.Refused reason) = IsNoWorkspace file (reason_code reason) (reason_text reason)
+Fits (refusal code text) (answers.Refused reason) = (reason_code reason ≡ code) × (reason_text reason ≡ text)
 Fits v answer = ⊥
+
+-- what a request of the queue asks for, as the law has it
+abbrev pub call_of : Queued → Call
+call_of (Build params) = to_build params.targets params.origin_id
+
+-- What a request is owed at its take. One of the queue finds a workspace in force.
+abbrev pub Judges : Option Space → Verdict → Owed → Type 0
+Judges force v (owing.Answer answer) = Fits v answer
+Judges force v (owing.Opening root) = v ≡ asking root
+Judges force v (owing.Queued call) = (v ≡ queued (call_of call)) × IsSome force
 
 -- it is a build of the workspace in force, and these are its documents
 pub record IsPlanOf (force : Option Space) (v : Verdict) (plan : Plan) : Type 0 where
@@ -55,22 +71,15 @@ pub record IsPlanOf (force : Option Space) (v : Verdict) (plan : Plan) : Type 0 
   pub is : v ≡ building (build_in space plan)
   pub places : ArePlaces (build_in space plan) plan.places
 
--- the request is a question, and this answers it
-abbrev pub IsReply : Verdict → Data → Type 0
-IsReply (answering space question) value = IsAnswer space question value
-IsReply v value = ⊥
+-- what a request of the queue is owed as it is taken up
+abbrev pub TakesUp : Option Space → Verdict → TakenUp → Type 0
+TakesUp force v (ups.Building plan) = IsPlanOf force v plan
+TakesUp force v (ups.Refused reason) = Fits v (answers.Refused reason)
 
--- the core gives a request what it is owed, or keeps it
-abbrev pub Judges : Option Space → Verdict → Owed → Type 0
-Judges force v (owing.Asking root) = v ≡ asking root
-Judges force v (owing.Building plan) = IsPlanOf force v plan
-Judges force v (owing.Result value) = IsReply v (view value)
-Judges force v (owing.Answer answer) = Fits v answer
-
--- the targets that were found, or the place of the first that wasn't
+-- the targets that were found, or the index of the first that wasn't
 abbrev pub IsFoundAs : Found → Result (Vec ℕ Global) ℕ → Type 0
 IsFoundAs found (Ok targets) = found ≡ all_found targets.items
-IsFoundAs found (Err place) = found ≡ unknown_at place
+IsFoundAs found (Err index) = found ≡ unknown_at index
 
 -- ---- what is said is plain and short
 
@@ -82,26 +91,34 @@ pub record IsShort (text : List ℕ) : Type 0 where
   pub plain : IsAscii text
   pub short : length text ≤ said_limit
 
-abbrev pub IsSaid : Answer → Type 0
-IsSaid (answers.Refused (reasons.BadParams path)) = IsShort path
-IsSaid (answers.Refused (reasons.Workspace fault)) = IsShort fault.name
-IsSaid answer = Unit {0}
-
 -- a result is printed in one way alone, and in a part of a frame
 pub record IsPrinted (value : Data) : Type 0 where
   pub exact : has_float value ≡ false
   pub short : length (compact_text value) ≤ answer_limit
 
+abbrev pub IsSaid : Answer → Type 0
+IsSaid (answers.Result value) = IsPrinted (view value)
+IsSaid (answers.Refused (reasons.InvalidParams path)) = IsShort path
+IsSaid (answers.Refused (reasons.WorkspaceRefused fault)) = IsShort fault.name
+IsSaid answer = Unit {0}
+
+abbrev pub HasTexts : Queued → Type 0
+HasTexts (Build params) = HasCompileTexts params
+
 abbrev pub IsSaidOwed : Owed → Type 0
-IsSaidOwed (owing.Asking root) = Unit {0}
-IsSaidOwed (owing.Building plan) = Unit {0}
-IsSaidOwed (owing.Result value) = IsPrinted (view value)
 IsSaidOwed (owing.Answer answer) = IsSaid answer
+IsSaidOwed (owing.Opening root) = Unit {0}
+IsSaidOwed (owing.Queued call) = HasTexts call
+
+abbrev pub IsSaidUp : TakenUp → Type 0
+IsSaidUp (ups.Building plan) = Unit {0}
+IsSaidUp (ups.Refused reason) = IsSaid (answers.Refused reason)
 
 -- ---- answers as messages
 
 -- the response that gives a request this answer
 abbrev pub answer_to : Id → Answer → Said
+answer_to id (answers.Result value) = result (Some id) (view value)
 answer_to id (answers.Opening space) = result (Some id) initialize_result
 answer_to id answers.Closing = result (Some id) null
-answer_to id (answers.Refused reason) = failure (Some id) (code_of reason) (message_of reason)
+answer_to id (answers.Refused reason) = failure (Some id) (reason_code reason) (reason_text reason)

@@ -20,7 +20,7 @@ abbrev pub plan_of : Inside → Plan
 plan_of planned = record { asked = planned.asked; origin = planned.origin; places = planned.places }
 
 -- its addresses and its `originId` are short, and no two documents have one address
-pub record IsSound (plan : Plan) : Type 0 where
+pub record IsSoundPlan (plan : Plan) : Type 0 where
   pub plain : All IsPlain plan.places
   pub distinct : AllPairs ◌≢◌ (map (λ place. place.address) plan.places)
   pub short : IfSome plan.origin (IsTextWithin ORIGIN_LIMIT)

@@ -10,7 +10,7 @@ use Rattle.session_law.specs.Methods.{Verdict, due_in}
 use Rattle.session_law.specs.Past.{after}
 use Rattle.session_law.specs.Requests.{Asked, Wants}
 use Rattle.session_core.specs.Plans.{Plan, build_in}
-use Rattle.session_core.specs.State.{Standing, State, state_of, asked_by, paths_of, handed_of}
+use Rattle.session_core.specs.State.{Standing, State, state_of, asked_by, needed_paths, handed_of}
 use Rattle.session_core.specs.declared.awaiting.Awaiting.TheVariants as awaits
 use Rattle.target_graph.specs.Workspace.{Space}
 use Rattle.session_core.specs.declared.awaiting.Awaiting.{Awaiting}
@@ -43,7 +43,7 @@ WantsOf (Some standing) paths = Wants standing.verdict paths
 
 -- what is needed is what the open request wants
 abbrev pub NeedFits : Option Need → Option Space → Option Awaiting → Type 0
-NeedFits need force awaiting = IfSome need (λ n. WantsOf (asked_by force awaiting) (paths_of n))
+NeedFits need force awaiting = IfSome need (λ n. WantsOf (asked_by force awaiting) (needed_paths n))
 
 abbrev pub AreIn : Option Space → Plan → Type 0
 AreIn None plan = ⊥

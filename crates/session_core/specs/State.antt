@@ -55,8 +55,8 @@ asked_by force (Some (awaits.Opening id root)) = owed id (asking root)
 asked_by force (Some (awaits.Building id plan)) = building_in force id plan
 
 -- the paths that the tree is to be asked for
-abbrev pub paths_of : Need → List (List ℕ)
-paths_of (needs.Tree paths) = paths
+abbrev pub needed_paths : Need → List (List ℕ)
+needed_paths (needs.Tree paths) = paths
 
 abbrev pub workspace_need : Need
 workspace_need = needs.Tree (workspace_path ∷ [])

@@ -10,7 +10,7 @@ ghost use Rattle.session_law.specs.Methods.{capabilities, initialize_result, nul
 ghost use Rattle.session_core.specs.Acting.{answer_unread};
 ghost use Rattle.session_core.specs.Judging.{answer_to};
 
-use crate::verdicts::Answer;
+use crate::verdicts::Reason;
 use bsp_records::{CompileResult, StatusCode, write_compile_result};
 use ob_text::{NoMemory, Text};
 use rpc_peer::{ErrorObject, Id, Message};
@@ -20,21 +20,12 @@ use std::alloc::{AllocError, Global};
 /// The code of an input that is no list of frames (JSON-RPC 2.0, section 5.1).
 pub const PARSE_ERROR: i32 = -32700;
 
-/// The response that gives a request this answer.
-pub fn response(alloc: Global, id: Id, answer: &Answer) -> Result<Message, NoMemory>
-    ensures { IfOk result (λ m. said m ≡ answer_to id answer.now) }
+/// The response that refuses a request for this reason.
+pub fn refusal(alloc: Global, id: Id, reason: &Reason) -> Result<Message, NoMemory>
+    ensures { IfOk result (λ m. said m ≡ answer_to id (Answer.Refused reason.now)) }
 {
-    match answer {
-        Answer::Opening(_) => {
-            let value = initialize_value(alloc)?;
-            Ok(success(id, value))
-        }
-        Answer::Closing => Ok(success(id, Value::Null)),
-        Answer::Refused(reason) => {
-            let message = reason.message(alloc)?;
-            Ok(failure(Some(id), reason.code(), message))
-        }
-    }
+    let message = reason.message(alloc)?;
+    Ok(failure(Some(id), reason.code(), message))
 }
 
 /// The response to a compile that was sent with this `originId`, where a document has an error and where none has.
@@ -103,8 +94,9 @@ fn failure(id: Option<Id>, code: i64, message: Text) -> Message
     }
 }
 
+/// The result of an initialize.
 #[tactic(auto, unfolding(session_law::specs::Methods::initialize_result))]
-fn initialize_value(alloc: Global) -> Result<Value, AllocError>
+pub fn initialize_value(alloc: Global) -> Result<Value, AllocError>
     ensures { IfOk result (λ v. view v ≡ initialize_result) }
 {
     let capabilities = capabilities_value(alloc)?;

@@ -1,21 +1,22 @@
-ghost use Rattle.std.specs.Prelude.{◌≡◌, ◌<◌, length, None, Some, IfOk, IfSome, option_map};
+ghost use Rattle.std.specs.Prelude.{◌≡◌, ◌<◌, length, None, Some, IfOk, IfSome, IsSome, option_map};
 ghost use Rattle.std.specs.List.{All};
 ghost use Rattle.std.specs.Str.{IsUtf8};
 ghost use Rattle.bsp_records.specs.Params.{IsTarget, HasCompileTexts};
+ghost use Rattle.bsp_records.specs.Requests.{HasRequestTexts, request_in};
 ghost use Rattle.bsp_records.specs.Shapes.{IsTextWithin};
+ghost use Rattle.bsp_records.specs.declared.kinds.TheConstants.{ROOT_LIMIT};
+ghost use Rattle.bsp_records.specs.declared.requests.Method.TheVariants.{Initialize};
 ghost use Rattle.serde_json.specs.View.{view};
-ghost use Rattle.session_law.specs.Methods.{initialize_verdict, asked_with, opening, answering, verdict, served_verdict, sources_verdict, sourced, inverse_verdict, compile_verdict, found_build, found_from, target_path, due_in};
+ghost use Rattle.session_law.specs.Methods.{opening, answering, verdict, verdict_for, is_initialize, served_in, read_in, first_asked, asked_of, rooted, sourced, found_from, found_build, target_path, taken_in};
 ghost use Rattle.session_law.specs.Questions.{inverse_of};
-ghost use Rattle.session_core.specs.Judging.{Judges, Fits, IsFoundAs, IsSaid, IsSaidOwed};
+ghost use Rattle.session_core.specs.Judging.{Judges, Fits, IsFoundAs, IsSaid, IsSaidOwed, IsSaidUp, HasTexts, TakesUp, call_of};
 ghost use Rattle.target_graph.specs.Address.{root_at};
 ghost use Rattle.target_graph.specs.Workspace.{named};
-ghost use Rattle.target_graph.specs.declared.root.TheConstants.{ROOT_LIMIT};
 
 use crate::planned::Planned;
-use crate::verdicts::{Answer, Owed, Reason};
+use crate::verdicts::{Answer, Owed, Queued, Reason, TakenUp};
 use bsp_records::{
-    BadParams, BuildTargetIdentifier, CompileParams, SourcesParams, read_compile_params,
-    read_initialize_params, read_inverse_sources_params, read_sources_params,
+    BadParams, BuildTargetIdentifier, CompileParams, Method, Request, SourcesParams, read_request,
 };
 use itoa::Buffer;
 use ob_text::{Held, Items, NoMemory, Text};
@@ -25,30 +26,59 @@ use session_build::places_of;
 use std::alloc::Global;
 use target_graph::{Root, RootFault, Workspace, WorkspaceRefusal, root_of};
 
-/// What a request is owed where this workspace is in force.
-#[tactic(auto, unfolding(session_law::specs::Methods::verdict))]
+/// What a request is owed where this workspace is in force, judged as it is taken.
 pub fn judge(
     alloc: Global,
-    method: &[u8],
-    params: &Option<Value>,
+    name: &[u8],
+    params: Option<Value>,
     workspace: &Option<Workspace>,
     closed: bool,
 ) -> Result<Owed, NoMemory>
-    ensures judged { IfOk result (Judges workspace.now (due_in workspace.now
-        (verdict method.now (option_map view params.now) workspace.now closed))) }
+    ensures judged { IfOk result (Judges workspace.now
+        (verdict name.now (option_map view params) workspace.now closed)) }
     ensures short { IfOk result IsSaidOwed }
 {
-    if b"build/initialize".as_slice() == method {
+    judge_method(alloc, Method::named(name), params, workspace, closed)
+}
+
+fn judge_method(
+    alloc: Global,
+    method: Option<Method>,
+    params: Option<Value>,
+    workspace: &Option<Workspace>,
+    closed: bool,
+) -> Result<Owed, NoMemory>
+    ensures judged { IfOk result (Judges workspace.now
+        (verdict_for method (option_map view params) workspace.now closed)) }
+    ensures short { IfOk result IsSaidOwed }
+{
+    if is_initialize(method) {
         if workspace.is_some() {
-            Ok(refused(Reason::Invalid))
+            Ok(refused(Reason::InvalidRequest))
         } else {
             judge_initialize(alloc, params)
         }
     } else {
         match workspace {
-            None => Ok(refused(Reason::NotInitialized)),
+            None => Ok(refused(Reason::ServerNotInitialized)),
             Some(workspace) => judge_served(alloc, method, params, workspace, closed),
         }
+    }
+}
+
+fn is_initialize(method: Option<Method>) -> bool
+    ensures { result ≡ is_initialize method }
+{
+    match method {
+        Some(Method::Initialize) => true,
+        Some(
+            Method::Shutdown
+            | Method::BuildTargets
+            | Method::Sources
+            | Method::InverseSources
+            | Method::Compile,
+        )
+        | None => false,
     }
 }
 
@@ -60,177 +90,183 @@ fn refused(reason: Reason) -> Owed
 
 // The params are bad at a path that is said here.
 fn bad_at(alloc: Global, path: &[u8]) -> Result<Owed, NoMemory>
-    ensures { IfOk result (λ owed. owed ≡ Owed.Answer (Answer.Refused (Reason.BadParams path.now))) }
+    ensures { IfOk result (λ owed. owed ≡ Owed.Answer (Answer.Refused (Reason.InvalidParams path.now))) }
 {
-    Ok(refused(Reason::BadParams(Text::new(alloc, path)?)))
+    Ok(refused(Reason::InvalidParams(Text::new(alloc, path)?)))
 }
 
-fn judge_initialize(alloc: Global, params: &Option<Value>) -> Result<Owed, NoMemory>
-    ensures judged { IfOk result (Judges None (due_in None (initialize_verdict (option_map view params.now)))) }
+fn judge_initialize(alloc: Global, params: Option<Value>) -> Result<Owed, NoMemory>
+    ensures judged { IfOk result (Judges None
+        (read_in None (request_in Initialize (option_map view params)))) }
     ensures short { IfOk result IsSaidOwed }
 {
-    match params {
-        None => bad_at(alloc, b"params"),
-        Some(params) => match read_initialize_params(alloc, params) {
-            Ok(params) => judge_root(alloc, &params.root_uri),
-            Err(BadParams::At(path)) => Ok(refused(Reason::BadParams(path))),
-            Err(BadParams::NoMemory) => Err(NoMemory),
-        },
+    match read_request(alloc, Method::Initialize, params) {
+        Ok(request) => judge_first(alloc, request),
+        Err(BadParams::At(path)) => Ok(refused(Reason::InvalidParams(path))),
+        Err(BadParams::NoMemory) => Err(NoMemory),
+    }
+}
+
+// What a request asks where no workspace is in force.
+fn judge_first(alloc: Global, request: Request) -> Result<Owed, NoMemory>
+    requires { HasRequestTexts request }
+    ensures judged { IfOk result (Judges None (first_asked request)) }
+    ensures short { IfOk result IsSaidOwed }
+{
+    match request {
+        Request::Initialize(params) => judge_root(alloc, &params.root_uri),
+        Request::Shutdown
+        | Request::BuildTargets
+        | Request::Sources(_)
+        | Request::InverseSources(_)
+        | Request::Compile(_) => Ok(refused(Reason::ServerNotInitialized)),
     }
 }
 
 fn judge_root(alloc: Global, uri: &Text) -> Result<Owed, NoMemory>
     requires { IsTextWithin ROOT_LIMIT uri.now }
-    ensures judged { IfOk result (Judges None (due_in None (asked_with None (root_at uri.now)))) }
+    ensures judged { IfOk result (Judges None (rooted (root_at uri.now))) }
     ensures short { IfOk result IsSaidOwed }
 {
-    match root_of(alloc, std::str::from_utf8(uri.as_slice()).unwrap()) {
-        Ok(root) => Ok(Owed::Asking(root)),
+    match root_of(alloc, as_str(uri)) {
+        Ok(root) => Ok(Owed::Opening(root)),
         Err(RootFault::BadRoot) => bad_at(alloc, b"rootUri"),
         Err(RootFault::NoMemory) => Err(NoMemory),
     }
 }
 
+// A request that isn't an initialize, behind one.
 fn judge_served(
     alloc: Global,
-    method: &[u8],
-    params: &Option<Value>,
+    method: Option<Method>,
+    params: Option<Value>,
     workspace: &Workspace,
     closed: bool,
 ) -> Result<Owed, NoMemory>
-    ensures judged { IfOk result (Judges (Some workspace.now) (due_in (Some workspace.now)
-        (served_verdict method.now (option_map view params.now) workspace.now closed))) }
+    ensures judged { IfOk result (Judges (Some workspace.now)
+        (served_in (Some workspace.now) method (option_map view params) closed)) }
     ensures short { IfOk result IsSaidOwed }
 {
     if closed {
-        Ok(refused(Reason::Invalid))
-    } else if b"build/shutdown".as_slice() == method {
-        Ok(Owed::Answer(Answer::Closing))
-    } else if b"workspace/buildTargets".as_slice() == method {
-        Ok(Owed::Result(targets_answer(alloc, workspace)?))
-    } else if b"buildTarget/sources".as_slice() == method {
-        judge_sources(alloc, params, workspace)
-    } else if b"buildTarget/inverseSources".as_slice() == method {
-        judge_inverse(alloc, params, workspace)
-    } else if b"buildTarget/compile".as_slice() == method {
-        judge_compile(alloc, params, workspace)
-    } else {
-        Ok(refused(Reason::Unknown))
+        return Ok(refused(Reason::InvalidRequest));
     }
+    match method {
+        Some(method) => judge_params(alloc, method, params, workspace),
+        None => Ok(refused(Reason::MethodNotFound)),
+    }
+}
+
+fn judge_params(
+    alloc: Global,
+    method: Method,
+    params: Option<Value>,
+    workspace: &Workspace,
+) -> Result<Owed, NoMemory>
+    ensures judged { IfOk result (Judges (Some workspace.now)
+        (read_in (Some workspace.now) (request_in method (option_map view params)))) }
+    ensures short { IfOk result IsSaidOwed }
+{
+    match read_request(alloc, method, params) {
+        Ok(request) => judge_request(alloc, request, workspace),
+        Err(BadParams::At(path)) => Ok(refused(Reason::InvalidParams(path))),
+        Err(BadParams::NoMemory) => Err(NoMemory),
+    }
+}
+
+// What a request asks of the workspace in force.
+fn judge_request(
+    alloc: Global,
+    request: Request,
+    workspace: &Workspace,
+) -> Result<Owed, NoMemory>
+    requires { HasRequestTexts request }
+    ensures judged { IfOk result (Judges (Some workspace.now) (asked_of workspace.now request)) }
+    ensures short { IfOk result IsSaidOwed }
+{
+    match request {
+        Request::Initialize(_) => Ok(refused(Reason::InvalidRequest)),
+        Request::Shutdown => Ok(Owed::Answer(Answer::Closing)),
+        Request::BuildTargets => Ok(told(targets_answer(alloc, workspace)?)),
+        Request::Sources(params) => judge_sources(alloc, &params, workspace),
+        Request::InverseSources(params) => {
+            let uri = as_str(&params.text_document.uri);
+            Ok(told(inverse_answer(alloc, workspace, uri)?))
+        }
+        Request::Compile(params) => Ok(Owed::Queued(Queued::Build(params))),
+    }
+}
+
+// A question is answered with this result.
+fn told(value: Value) -> Owed
+    ensures { result ≡ Owed.Answer (Answer.Result value) }
+{
+    Owed::Answer(Answer::Result(value))
 }
 
 fn judge_sources(
-    alloc: Global,
-    params: &Option<Value>,
-    workspace: &Workspace,
-) -> Result<Owed, NoMemory>
-    ensures judged { IfOk result (Judges (Some workspace.now) (due_in (Some workspace.now)
-        (sources_verdict workspace.now (option_map view params.now)))) }
-    ensures short { IfOk result IsSaidOwed }
-{
-    match params {
-        None => bad_at(alloc, b"params"),
-        Some(params) => match read_sources_params(alloc, params) {
-            Ok(params) => judge_listed(alloc, &params, workspace),
-            Err(BadParams::At(path)) => Ok(refused(Reason::BadParams(path))),
-            Err(BadParams::NoMemory) => Err(NoMemory),
-        },
-    }
-}
-
-fn judge_listed(
     alloc: Global,
     params: &SourcesParams,
     workspace: &Workspace,
 ) -> Result<Owed, NoMemory>
     requires { All IsTarget params.now.targets }
-    ensures judged { IfOk result (Judges (Some workspace.now) (due_in (Some workspace.now)
-        (sourced workspace.now (found_from workspace.now 0 params.now.targets)))) }
+    ensures judged { IfOk result (Judges (Some workspace.now)
+        (sourced workspace.now (found_from workspace.now 0 params.now.targets))) }
     ensures short { IfOk result IsSaidOwed }
 {
     match find_targets(alloc, params.targets.as_slice(), workspace)? {
-        Ok(asked) => Ok(Owed::Result(sources_answer(alloc, workspace, asked.as_slice())?)),
-        Err(place) => unknown_target(alloc, place),
+        Ok(asked) => Ok(told(sources_answer(alloc, workspace, asked.as_slice())?)),
+        Err(index) => Ok(refused(unknown_target(alloc, index)?)),
     }
 }
 
-fn judge_inverse(
+/// What a request of the queue is owed that is taken up in this workspace.
+pub fn take_up(
     alloc: Global,
-    params: &Option<Value>,
-    workspace: &Workspace,
-) -> Result<Owed, NoMemory>
-    ensures judged { IfOk result (Judges (Some workspace.now) (due_in (Some workspace.now)
-        (inverse_verdict workspace.now (option_map view params.now)))) }
-    ensures short { IfOk result IsSaidOwed }
+    call: Queued,
+    workspace: &Option<Workspace>,
+) -> Result<TakenUp, NoMemory>
+    requires texts { HasTexts call }
+    requires begun { IsSome workspace.now }
+    ensures taken { IfOk result (TakesUp workspace.now (taken_in workspace.now (call_of call))) }
+    ensures short { IfOk result IsSaidUp }
 {
-    match params {
-        None => bad_at(alloc, b"params"),
-        Some(params) => match read_inverse_sources_params(alloc, params) {
-            Ok(params) => judge_document(alloc, &params.text_document.uri, workspace),
-            Err(BadParams::At(path)) => Ok(refused(Reason::BadParams(path))),
-            Err(BadParams::NoMemory) => Err(NoMemory),
+    match workspace {
+        Some(workspace) => match call {
+            Queued::Build(params) => plan_build(alloc, params, workspace),
         },
+        None => unreachable!(),
     }
 }
 
-fn judge_document(alloc: Global, uri: &Text, workspace: &Workspace) -> Result<Owed, NoMemory>
-    requires { IsUtf8 uri.now }
-    ensures judged { IfOk result (Judges (Some workspace.now)
-        (answering workspace.now (inverse_of uri.now))) }
-    ensures short { IfOk result IsSaidOwed }
-{
-    let uri = std::str::from_utf8(uri.as_slice()).unwrap();
-    Ok(Owed::Result(inverse_answer(alloc, workspace, uri)?))
-}
-
-fn judge_compile(
-    alloc: Global,
-    params: &Option<Value>,
-    workspace: &Workspace,
-) -> Result<Owed, NoMemory>
-    ensures judged { IfOk result (Judges (Some workspace.now) (due_in (Some workspace.now)
-        (compile_verdict (option_map view params.now)))) }
-    ensures short { IfOk result IsSaidOwed }
-{
-    match params {
-        None => bad_at(alloc, b"params"),
-        Some(params) => match read_compile_params(alloc, params) {
-            Ok(params) => judge_targets(alloc, params, workspace),
-            Err(BadParams::At(path)) => Ok(refused(Reason::BadParams(path))),
-            Err(BadParams::NoMemory) => Err(NoMemory),
-        },
-    }
-}
-
-fn judge_targets(
+fn plan_build(
     alloc: Global,
     params: CompileParams,
     workspace: &Workspace,
-) -> Result<Owed, NoMemory>
+) -> Result<TakenUp, NoMemory>
     requires { HasCompileTexts params }
-    ensures judged { IfOk result (Judges (Some workspace.now)
+    ensures taken { IfOk result (TakesUp (Some workspace.now)
         (found_build workspace.now params.origin_id (found_from workspace.now 0 params.targets))) }
-    ensures short { IfOk result IsSaidOwed }
+    ensures short { IfOk result IsSaidUp }
 {
     match find_targets(alloc, params.targets.as_slice(), workspace)? {
         Ok(asked) => {
             let places = places_of(alloc, workspace, asked.as_slice())?;
             let asked = Items::from_vec(asked);
-            Ok(Owed::Building(Planned::new(asked, params.origin_id, places)))
+            Ok(TakenUp::Building(Planned::new(asked, params.origin_id, places)))
         }
-        Err(place) => unknown_target(alloc, place),
+        Err(index) => Ok(TakenUp::Refused(unknown_target(alloc, index)?)),
     }
 }
 
-// The target that stands at this place in a list isn't one of the workspace.
-fn unknown_target(alloc: Global, place: usize) -> Result<Owed, NoMemory>
-    ensures judged { IfOk result (λ owed. owed ≡ Owed.Answer (Answer.Refused (Reason.BadParams (target_path place)))) }
-    ensures short { IfOk result IsSaidOwed }
+// The target that stands at this index of a list isn't one of the workspace.
+fn unknown_target(alloc: Global, index: usize) -> Result<Reason, NoMemory>
+    ensures refused { IfOk result (λ reason. reason ≡ Reason.InvalidParams (target_path index)) }
+    ensures short { IfOk result (λ reason. IsSaid (Answer.Refused reason)) }
 {
-    Ok(refused(Reason::BadParams(target_path(alloc, place)?)))
+    Ok(Reason::InvalidParams(target_path(alloc, index)?))
 }
 
-/// The targets that a list of addresses names, or the place of the first one that names none.
+/// The targets that a list of addresses names, or the index of the first one that names none.
 fn find_targets(
     alloc: Global,
     ids: &[BuildTargetIdentifier],
@@ -242,10 +278,10 @@ fn find_targets(
         < length workspace.now.targets) targets.items)) }
 {
     let mut asked = Vec::new(alloc);
-    for place in 0..ids.len() {
-        match target_named(&ids[place], workspace)? {
+    for index in 0..ids.len() {
+        match target_named(&ids[index], workspace)? {
             Some(target) => asked.push(target)?,
-            None => return Ok(Err(place)),
+            None => return Ok(Err(index)),
         }
     }
     Ok(Ok(asked))
@@ -257,17 +293,25 @@ fn target_named(id: &BuildTargetIdentifier, workspace: &Workspace) -> Result<Opt
     ensures within { IfOk result (λ found. IfSome found (λ target. target
         < length workspace.now.targets)) }
 {
-    workspace.target_named(std::str::from_utf8(id.uri.as_slice()).unwrap())
+    workspace.target_named(as_str(&id.uri))
 }
 
-/// The path of the target that stands at this place in a list.
+// A text that was read of JSON.
+fn as_str(text: &Text) -> &str
+    requires { IsUtf8 text.now }
+    ensures { result.now ≡ text.now }
+{
+    unsafe { std::str::from_utf8_unchecked(text.as_slice()) }
+}
+
+/// The path of the target that stands at this index of a list.
 #[tactic(auto, unfolding(session_law::specs::Methods::target_path))]
-fn target_path(alloc: Global, place: usize) -> Result<Text, NoMemory>
-    ensures { IfOk result (λ path. path ≡ target_path place) }
+fn target_path(alloc: Global, index: usize) -> Result<Text, NoMemory>
+    ensures { IfOk result (λ path. path ≡ target_path index) }
 {
     let mut buffer = Buffer::new();
     let mut path = Vec::from_slice(alloc, b"targets[")?;
-    path.extend_from_slice(buffer.format(place).as_bytes())?;
+    path.extend_from_slice(buffer.format(index).as_bytes())?;
     path.extend_from_slice(b"].uri")?;
     Ok(Text::from_vec(path))
 }
@@ -279,7 +323,7 @@ pub fn judge_workspace(alloc: Global, file: &Held, root: Root) -> Result<Answer,
 {
     match Workspace::read(alloc, file, root) {
         Ok(workspace) => Ok(Answer::Opening(workspace)),
-        Err(WorkspaceRefusal::Fault(fault)) => Ok(Answer::Refused(Reason::Workspace(fault))),
+        Err(WorkspaceRefusal::Fault(fault)) => Ok(Answer::Refused(Reason::WorkspaceRefused(fault))),
         Err(WorkspaceRefusal::NoMemory) => Err(NoMemory),
     }
 }

@@ -12,13 +12,13 @@ pub struct Planned {
 }
 
 impl Model for Planned {
-    ghost use Rattle.session_core.specs.Plans.{Plan, IsSound, plan_of};
+    ghost use Rattle.session_core.specs.Plans.{Plan, IsSoundPlan, plan_of};
 
     ghost Value = { Plan };
 
     ghost view = { plan_of };
 
-    ghost invariant = { λ planned. IsSound (plan_of planned) };
+    ghost invariant = { λ planned. IsSoundPlan (plan_of planned) };
 }
 
 impl Planned {

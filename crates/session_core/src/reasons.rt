@@ -8,33 +8,33 @@ use target_graph::{FaultKind, WorkspaceFault};
 
 impl Reason {
     ghost use Rattle.std.specs.Prelude.{◌≡◌, IfOk};
-    ghost use Rattle.session_core.specs.Judging.{code_of, message_of};
+    ghost use Rattle.session_core.specs.Judging.{reason_code, reason_text};
 
     /// The code of the refusal (JSON-RPC 2.0, section 5.1; Language Server Protocol 3.17, ErrorCodes).
     /// -32010 is this server's own.
     pub fn code(&self) -> i64
-        ensures { result ≡ code_of self.now }
+        ensures { result ≡ reason_code self.now }
     {
         match self {
-            Reason::NotInitialized => -32002,
-            Reason::Invalid => -32600,
-            Reason::Unknown => -32601,
-            Reason::BadParams(_) => -32602,
-            Reason::Unreadable => -32603,
-            Reason::Workspace(_) => -32010,
+            Reason::ServerNotInitialized => -32002,
+            Reason::InvalidRequest => -32600,
+            Reason::MethodNotFound => -32601,
+            Reason::InvalidParams(_) => -32602,
+            Reason::InternalError => -32603,
+            Reason::WorkspaceRefused(_) => -32010,
         }
     }
 
     pub fn message(&self, alloc: Global) -> Result<Text, NoMemory>
-        ensures { IfOk result (λ text. text ≡ message_of self.now) }
+        ensures { IfOk result (λ text. text ≡ reason_text self.now) }
     {
         match self {
-            Reason::NotInitialized => Text::new(alloc, b"server not initialized"),
-            Reason::Invalid => Text::new(alloc, b"invalid request"),
-            Reason::Unknown => Text::new(alloc, b"method not found"),
-            Reason::BadParams(path) => joined(alloc, b"invalid params: ", path.as_slice()),
-            Reason::Unreadable => Text::new(alloc, b"sources unreadable"),
-            Reason::Workspace(fault) => refused_message(alloc, fault),
+            Reason::ServerNotInitialized => Text::new(alloc, b"server not initialized"),
+            Reason::InvalidRequest => Text::new(alloc, b"invalid request"),
+            Reason::MethodNotFound => Text::new(alloc, b"method not found"),
+            Reason::InvalidParams(path) => joined(alloc, b"invalid params: ", path.as_slice()),
+            Reason::InternalError => Text::new(alloc, b"sources unreadable"),
+            Reason::WorkspaceRefused(fault) => refused_message(alloc, fault),
         }
     }
 }

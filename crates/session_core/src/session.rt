@@ -4,11 +4,11 @@ ghost use Rattle.session_law.specs.Requests.{handed_over};
 ghost use Rattle.session_core.specs.Judging.{Fits, IsSaid};
 ghost use Rattle.session_core.specs.State.{handed_of};
 
-use crate::answers::{PARSE_ERROR, compiled, response, success, unread_answer};
+use crate::answers::{PARSE_ERROR, compiled, initialize_value, refusal, success, unread_answer};
 use crate::awaiting::{Awaiting, Need, workspace_path, workspace_paths};
-use crate::judging::{judge, judge_workspace};
+use crate::judging::{judge, judge_workspace, take_up};
 use crate::planned::Planned;
-use crate::verdicts::{Answer, Owed, Reason};
+use crate::verdicts::{Answer, Owed, Queued, Reason, TakenUp};
 use ob_text::{Held, NoMemory, Snapshot, Text};
 use rpc_peer::{Id, Message, Refusal, read_message};
 use serde_json::Value;
@@ -43,16 +43,17 @@ pub struct Core {
 }
 
 impl Core {
-    ghost use Rattle.std.specs.Prelude.{◌≡◌, ◌<◌, [], ◌∷◌, ◌↔◌, List, None, Ok, IsTrue, IfSome, IfNone, OnOk, OnErr, option_map};
+    ghost use Rattle.std.specs.Prelude.{◌≡◌, ◌<◌, [], ◌∷◌, ◌↔◌, List, None, Ok, IsTrue, IsSome, IfSome, IfNone, OnOk, OnErr, option_map};
     ghost use Rattle.rpc_peer.specs.Meaning.{meaning};
     ghost use Rattle.rpc_peer.specs.Said.{said, HasId, IsId};
     ghost use Rattle.session_law.specs.IsFramed.{IsFramed};
-    ghost use Rattle.session_law.specs.Methods.{asking, due_in, unreadable, verdict};
+    ghost use Rattle.session_law.specs.Methods.{asking, due_in, taken_in, unreadable, verdict};
     ghost use Rattle.session_law.specs.Order.{Event, take, ends, hand, write};
-    ghost use Rattle.session_core.specs.Acting.{Acts, ActsOnHand, Answers, AnswersUnread, Asks, Builds, BuildsOn, Ends, Plans, ServesAs, AnswersAs, Steps, Tells, exited_by};
+    ghost use Rattle.session_core.specs.Acting.{Acts, ActsOnHand, Answers, AnswersUnread, Asks, Builds, BuildsOn, Ends, Plans, ServesAs, AnswersAs, Steps, exited_by};
+    ghost use Rattle.session_core.specs.Judging.{HasTexts, call_of};
     ghost use Rattle.session_core.specs.Reading.{AreReadable};
     ghost use Rattle.session_core.specs.Standing.{StandsFor, Awaits, Suits, IsFree, NeedsNothing, NeedsWhatItAwaits, IsQuiet, IsAlive, status_of, left_to_write};
-    ghost use Rattle.session_core.specs.State.{handed_of, paths_of, state_of};
+    ghost use Rattle.session_core.specs.State.{handed_of, needed_paths, state_of};
     ghost use Rattle.session_law.specs.Requests.{handed_over};
     ghost use Rattle.serde_json.specs.View.{view};
 
@@ -146,7 +147,7 @@ impl Core {
     pub fn next_need(&mut self) -> Option<Need>
         requires quiet { IsQuiet self.old }
         ensures awaited { IsAlive self.old → (order : List Event) → StandsFor self.old order
-            → IfSome result (λ need. Awaits self.new (paths_of need)) }
+            → IfSome result (λ need. Awaits self.new (needed_paths need)) }
         ensures keeps { (order : List Event) → StandsFor self.old order → StandsFor self.new order }
         ensures none { IfNone result (NeedsNothing self.old × (IsFree self.old → IsFree self.new)) }
         ensures asked { NeedsNothing self.new }
@@ -193,7 +194,7 @@ impl Core {
         ensures err { OnErr result (self.new.out.items ≡ self.old.out.items) }
     {
         match message {
-            Message::Request { id, method, params } => self.serve(id, &method, &params),
+            Message::Request { id, method, params } => self.serve(id, &method, params),
             Message::Notification { method, params: _ } => {
                 self.heed(method.as_slice());
                 Ok(())
@@ -203,30 +204,35 @@ impl Core {
     }
 
     // Gives a request what it is owed, or keeps it until the tree was asked.
-    fn serve(&mut self, id: Id, method: &Text, params: &Option<Value>) -> Result<(), NoMemory>
+    fn serve(&mut self, id: Id, method: &Text, params: Option<Value>) -> Result<(), NoMemory>
         requires { IsId id }
         ensures ok { OnOk result (ServesAs self.old self.new id (due_in self.old.workspace
-            (verdict method.now (option_map view params.now) self.old.workspace self.old.closed))) }
+            (verdict method.now (option_map view params) self.old.workspace self.old.closed))) }
         ensures alive { self.new.dead ≡ self.old.dead }
         ensures err { OnErr result (self.new.out.items ≡ self.old.out.items) }
     {
         let method = method.as_slice();
         match judge(self.alloc, method, params, &self.workspace, self.closed)? {
-            Owed::Asking(root) => self.ask(id, root),
-            Owed::Building(planned) => self.plan(id, planned),
-            Owed::Result(value) => self.tell(id, value),
             Owed::Answer(answer) => self.answer(id, answer),
+            Owed::Opening(root) => self.ask(id, root),
+            Owed::Queued(call) => self.take_up(id, call),
         }
     }
 
-    // Gives a request a result that changes nothing.
-    fn tell(&mut self, id: Id, value: Value) -> Result<(), NoMemory>
-        ensures ok { OnOk result (Tells self.old self.new id (view value)) }
+    // Takes up a request of the queue.
+    fn take_up(&mut self, id: Id, call: Queued) -> Result<(), NoMemory>
+        requires named { IsId id }
+        requires texts { HasTexts call }
+        requires begun { IsSome self.old.workspace }
+        ensures ok { OnOk result (ServesAs self.old self.new id
+            (taken_in self.old.workspace (call_of call))) }
         ensures alive { self.new.dead ≡ self.old.dead }
         ensures err { OnErr result (self.new.out.items ≡ self.old.out.items) }
     {
-        self.out.push_back(success(id, value))?;
-        Ok(())
+        match take_up(self.alloc, call, &self.workspace)? {
+            TakenUp::Building(planned) => self.plan(id, planned),
+            TakenUp::Refused(reason) => self.answer(id, Answer::Refused(reason)),
+        }
     }
 
     // Keeps an initialize until it has the workspace file.
@@ -261,13 +267,35 @@ impl Core {
         ensures status { self.new.status ≡ self.old.status }
         ensures err { OnErr result (self.new.out.items ≡ self.old.out.items) }
     {
-        let message = response(self.alloc, id, &answer)?;
-        self.out.push_back(message)?;
         match answer {
-            Answer::Opening(workspace) => self.workspace = Some(workspace),
-            Answer::Closing => self.closed = true,
-            Answer::Refused(_reason) => {}
+            Answer::Result(value) => self.say(success(id, value)),
+            Answer::Opening(workspace) => {
+                let value = initialize_value(self.alloc)?;
+                self.say(success(id, value))?;
+                self.workspace = Some(workspace);
+                Ok(())
+            }
+            Answer::Closing => {
+                self.say(success(id, Value::Null))?;
+                self.closed = true;
+                Ok(())
+            }
+            Answer::Refused(reason) => {
+                let message = refusal(self.alloc, id, &reason)?;
+                self.say(message)
+            }
         }
+    }
+
+    // Queues a message.
+    fn say(&mut self, message: Message) -> Result<(), NoMemory>
+        ensures ok { OnOk result (Steps self.old self.new (state_of self.old) (said message ∷ [])) }
+        ensures alive { self.new.dead ≡ self.old.dead }
+        ensures free { self.new.awaiting ≡ self.old.awaiting }
+        ensures status { self.new.status ≡ self.old.status }
+        ensures err { OnErr result (self.new.out.items ≡ self.old.out.items) }
+    {
+        self.out.push_back(message)?;
         Ok(())
     }
 
@@ -330,7 +358,7 @@ impl Core {
         ensures status { self.new.status ≡ self.old.status }
         ensures err { OnErr result (self.new.out.items ≡ self.old.out.items) }
     {
-        self.answer(id, Answer::Refused(Reason::Unreadable))
+        self.answer(id, Answer::Refused(Reason::InternalError))
     }
 
     // Publishes what the build finds, and answers it.
@@ -371,8 +399,7 @@ impl Core {
         ensures err { OnErr result (self.new.out.items ≡ self.old.out.items) }
     {
         let message = unread_answer(self.alloc, code)?;
-        self.out.push_back(message)?;
-        Ok(())
+        self.say(message)
     }
 
     fn act_on_end(&mut self, why: InputEnd) -> Result<(), NoMemory>
@@ -405,6 +432,6 @@ fn opening_answer(alloc: Global, root: Root, got: Option<Snapshot>) -> Result<An
             let path = workspace_path(alloc)?;
             judge_workspace(alloc, snapshot.get(&path).unwrap_or(&Held::Absent), root)
         }
-        None => Ok(Answer::Refused(Reason::Unreadable)),
+        None => Ok(Answer::Refused(Reason::InternalError)),
     }
 }

@@ -1,4 +1,5 @@
 use crate::planned::Planned;
+use bsp_records::CompileParams;
 use ob_text::Text;
 use serde_json::Value;
 use target_graph::{Root, Workspace, WorkspaceFault};
@@ -6,19 +7,34 @@ use target_graph::{Root, Workspace, WorkspaceFault};
 /// What a request is owed, judged as it is taken.
 #[derive(Drop)]
 pub enum Owed {
-    /// It is an initialize with this root, and wants the workspace file first.
-    Asking(Root),
-    /// It is a compile, and wants its documents first.
-    Building(Planned),
-    /// It is a question about the workspace in force, and owed this result.
-    Result(Value),
-    /// It is owed this answer.
+    /// It is answered at once.
     Answer(Answer),
+    /// It is an initialize with this root, and waits for the workspace file.
+    Opening(Root),
+    /// It waits in the queue.
+    Queued(Queued),
+}
+
+/// What a request of the queue asks for.
+#[derive(Drop)]
+pub enum Queued {
+    Build(CompileParams),
+}
+
+/// What a request of the queue is owed once it is taken up.
+#[derive(Drop)]
+pub enum TakenUp {
+    /// It is a build, and waits for its documents.
+    Building(Planned),
+    /// It names no target of the workspace at this path.
+    Refused(Reason),
 }
 
 /// How a request is answered.
 #[derive(Drop)]
 pub enum Answer {
+    /// It is a question about the workspace in force, and this is its result.
+    Result(Value),
     /// It is an initialize that opens the session with this workspace.
     Opening(Workspace),
     /// It is a shutdown that closes it.
@@ -31,15 +47,15 @@ pub enum Answer {
 #[derive(Drop)]
 pub enum Reason {
     /// No initialize was answered with a result yet.
-    NotInitialized,
+    ServerNotInitialized,
     /// A shutdown was answered, or it is an initialize behind another.
-    Invalid,
+    InvalidRequest,
     /// Its method isn't known.
-    Unknown,
+    MethodNotFound,
     /// Its params are bad at this path.
-    BadParams(Text),
+    InvalidParams(Text),
     /// The tree failed when it was asked for this request.
-    Unreadable,
+    InternalError,
     /// The workspace file has this fault.
-    Workspace(WorkspaceFault),
+    WorkspaceRefused(WorkspaceFault),
 }

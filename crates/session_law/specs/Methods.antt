@@ -1,12 +1,15 @@
--- The methods of the Build Server Protocol 2.2 that the session answers, and what it answers them.
-use Rattle.std.specs.Prelude.{◌==◌, ◌+◌, ℕ, ℤ, negsuc, List, [], ◌∷◌, ◌++◌, codes, decimal, Bool, true, Option, Some, None, is_some, if◌then◌else◌}
+-- What a request is owed: at its take, at the head of the queue, and once its files were handed out.
+use Rattle.std.specs.Prelude.{◌==◌, ◌+◌, ℕ, ℤ, negsuc, List, [], ◌∷◌, ◌++◌, codes, decimal, Bool, true, false, Option, Some, None, is_some, Result, Ok, Err, if◌then◌else◌}
 use Rattle.std.specs.Cmp.Lexicographic.{pointwise}
 use Rattle.std.specs.Ordering.{int_eq}
 use Rattle.ob_text.specs.declared.held.Held.{Held}
-use Rattle.bsp_records.specs.Params.{initialize_params, initialize_params_in, targets_params, sources_params_in, inverse_sources_params, inverse_sources_params_in, build_params, compile_params_in}
-use Rattle.bsp_records.specs.Shapes.{bad_params}
+use Rattle.bsp_records.specs.Requests.{method_named, request_in}
 use Rattle.rpc_peer.specs.Meaning.{invalid_request, parse_error}
 use Rattle.bsp_records.specs.declared.identifiers.BuildTargetIdentifier.{BuildTargetIdentifier}
+use Rattle.bsp_records.specs.declared.requests.Method.{Method}
+use Rattle.bsp_records.specs.declared.requests.Method.TheVariants as methods
+use Rattle.bsp_records.specs.declared.requests.Request.{Request}
+use Rattle.bsp_records.specs.declared.requests.Request.TheVariants as requests
 use Rattle.target_graph.specs.Address.{root_at}
 use Rattle.target_graph.specs.Workspace.{Space, named}
 use Rattle.target_graph.specs.declared.fault.FaultKind.{FaultKind}
@@ -100,31 +103,28 @@ pub data Call : Type 0 where
   -- a compile of these targets, with the `originId` that was sent with it
   to_build : List BuildTargetIdentifier → Option (List ℕ) → Call
 
+-- What an open request is owed. At its take it is answered at once, or waits for files, or waits in the queue.
 pub data Verdict : Type 0 where
-  -- an initialize with this root, that wants the workspace file
-  asking : List ℕ → Verdict
-  -- the same, once this was handed out for the file
-  opening : List ℕ → Held → Verdict
-  -- a request of the queue, which is judged by its targets as it comes to the head
-  queued : Call → Verdict
-  -- a compile that was taken up and wants its documents
-  building : Build → Verdict
-  -- the same, once they were handed out
-  built : Build → Entries → Verdict
-  -- a question about this workspace
+  -- at once: a question about this workspace
   answering : Space → Question → Verdict
   -- a shutdown that closes the session
   closing : Verdict
   -- a refusal with this code and message
   refusal : ℤ → List ℕ → Verdict
+  -- for files: an initialize with this root, that wants the workspace file
+  asking : List ℕ → Verdict
+  -- the same, once this was handed out for the file
+  opening : List ℕ → Held → Verdict
+  -- in the queue: it is judged by its targets as it comes to the head
+  queued : Call → Verdict
+  -- a compile that was taken up and wants its documents
+  building : Build → Verdict
+  -- the same, once they were handed out
+  built : Build → Entries → Verdict
 
 -- the path of the workspace file
 unfoldable pub workspace_path : List ℕ
 workspace_path = codes "oberon-build.json"
-
--- the request isn't one that may come now
-abbrev pub invalid : Verdict
-invalid = refusal invalid_request (codes "invalid request")
 
 -- the request can't be served, since the tree failed
 abbrev pub unreadable : Verdict
@@ -133,18 +133,6 @@ unreadable = refusal sources_unreadable (codes "sources unreadable")
 -- the params are bad at this path
 abbrev pub bad_at : List ℕ → Verdict
 bad_at path = refusal invalid_params (codes "invalid params: " ++ path)
-
--- ---- initialize
-
--- an initialize whose params have their shape needs a root
-abbrev pub asked_with : Option (List ℕ) → Option (List ℕ) → Verdict
-asked_with (Some path) root = bad_at path
-asked_with None None = bad_at (codes "rootUri")
-asked_with None (Some root) = asking root
-
-abbrev pub initialize_verdict : Option Data → Verdict
-initialize_verdict None = bad_at (codes "params")
-initialize_verdict (Some d) = asked_with (bad_params initialize_params d) (root_at (initialize_params_in d).root_uri)
 
 -- ---- lists of targets
 
@@ -166,15 +154,72 @@ abbrev pub found_from : Space → ℕ → List BuildTargetIdentifier → Found
 found_from space index [] = all_found []
 found_from space index (id ∷ ids) = found_first (named space id.uri) index (found_from space (index + 1) ids)
 
--- ---- the queue: a call is judged by its shape as it is taken, and by its targets as it is taken up
+-- ---- at its take: whether it may come, then the shape of its params, then what it asks
 
-abbrev pub compile_call : Option (List ℕ) → Data → Verdict
-compile_call (Some path) d = bad_at path
-compile_call None d = queued (to_build (compile_params_in d).targets (compile_params_in d).origin_id)
+-- a request that comes before an initialize was answered with a result
+abbrev pub too_early : Verdict
+too_early = refusal not_initialized (codes "server not initialized")
 
-abbrev pub compile_verdict : Option Data → Verdict
-compile_verdict None = bad_at (codes "params")
-compile_verdict (Some d) = compile_call (bad_params build_params d) d
+-- one that comes behind an answered shutdown, or an initialize behind another
+abbrev pub too_late : Verdict
+too_late = refusal invalid_request (codes "invalid request")
+
+-- an initialize needs a root
+abbrev pub rooted : Option (List ℕ) → Verdict
+rooted None = bad_at (codes "rootUri")
+rooted (Some root) = asking root
+
+abbrev pub sourced : Space → Found → Verdict
+sourced space (all_found targets) = answering space (sources_of targets)
+sourced space (unknown_at index) = bad_at (target_path index)
+
+-- what a request asks where no workspace is in force
+abbrev pub first_asked : Request → Verdict
+first_asked (requests.Initialize p) = rooted (root_at p.root_uri)
+first_asked request = too_early
+
+-- What a request asks of the workspace in force. One of the queue waits in it, whichever targets it names.
+abbrev pub asked_of : Space → Request → Verdict
+asked_of space (requests.Initialize p) = too_late
+asked_of space requests.Shutdown = closing
+asked_of space requests.BuildTargets = answering space all_targets
+asked_of space (requests.Sources p) = sourced space (found_from space 0 p.targets)
+asked_of space (requests.InverseSources p) = answering space (inverse_of p.text_document.uri)
+asked_of space (requests.Compile p) = queued (to_build p.targets p.origin_id)
+
+abbrev pub asked_in : Option Space → Request → Verdict
+asked_in None request = first_asked request
+asked_in (Some space) request = asked_of space request
+
+abbrev pub read_in : Option Space → Result Request (List ℕ) → Verdict
+read_in force (Err path) = bad_at path
+read_in force (Ok request) = asked_in force request
+
+abbrev pub is_initialize : Option Method → Bool
+is_initialize (Some methods.Initialize) = true
+is_initialize method = false
+
+-- its method has to be known
+abbrev pub known_in : Space → Option Method → Option Data → Verdict
+known_in space None params = refusal method_not_found (codes "method not found")
+known_in space (Some method) params = read_in (Some space) (request_in method params)
+
+-- nothing is served behind an answered shutdown
+abbrev pub served_in : Option Space → Option Method → Option Data → Bool → Verdict
+served_in None method params closed = too_early
+served_in (Some space) method params closed = if closed then too_late else known_in space method params
+
+-- Before an initialize was answered with a result no workspace is in force and nothing else is served, and behind it no
+-- other initialize.
+abbrev pub verdict_for : Option Method → Option Data → Option Space → Bool → Verdict
+verdict_for method params force closed =
+    if is_initialize method then (if is_some force then too_late else read_in None (request_in methods.Initialize params))
+    else served_in force method params closed
+
+abbrev pub verdict : List ℕ → Option Data → Option Space → Bool → Verdict
+verdict name params force closed = verdict_for (method_named name) params force closed
+
+-- ---- at the head of the queue: its targets
 
 abbrev pub found_build : Space → Option (List ℕ) → Found → Verdict
 found_build space origin (all_found targets) = building (record { space = space; asked = targets; origin = origin })
@@ -192,49 +237,3 @@ taken_in None call = queued call
 abbrev pub due_in : Option Space → Verdict → Verdict
 due_in force (queued call) = taken_in force call
 due_in force v = v
-
--- ---- questions about the workspace in force
-
-abbrev pub sourced : Space → Found → Verdict
-sourced space (all_found targets) = answering space (sources_of targets)
-sourced space (unknown_at index) = bad_at (target_path index)
-
-abbrev pub sourced_with : Space → Option (List ℕ) → Data → Verdict
-sourced_with space (Some path) d = bad_at path
-sourced_with space None d = sourced space (found_from space 0 (sources_params_in d).targets)
-
-abbrev pub sources_verdict : Space → Option Data → Verdict
-sources_verdict space None = bad_at (codes "params")
-sources_verdict space (Some d) = sourced_with space (bad_params targets_params d) d
-
-abbrev pub inverse_with : Space → Option (List ℕ) → Data → Verdict
-inverse_with space (Some path) d = bad_at path
-inverse_with space None d = answering space (inverse_of (inverse_sources_params_in d).text_document.uri)
-
-abbrev pub inverse_verdict : Space → Option Data → Verdict
-inverse_verdict space None = bad_at (codes "params")
-inverse_verdict space (Some d) = inverse_with space (bad_params inverse_sources_params d) d
-
--- ---- any request
-
--- behind an answered shutdown nothing is served, and else the method has to be known
-abbrev pub served_verdict : List ℕ → Option Data → Space → Bool → Verdict
-served_verdict method params space closed =
-    if closed then invalid
-    else (if is_named (codes "build/shutdown") method then closing
-    else (if is_named (codes "workspace/buildTargets") method then answering space all_targets
-    else (if is_named (codes "buildTarget/sources") method then sources_verdict space params
-    else (if is_named (codes "buildTarget/inverseSources") method then inverse_verdict space params
-    else (if is_named (codes "buildTarget/compile") method then compile_verdict params
-    else refusal method_not_found (codes "method not found"))))))
-
-abbrev pub verdict_in : Option Space → List ℕ → Option Data → Bool → Verdict
-verdict_in None method params closed = refusal not_initialized (codes "server not initialized")
-verdict_in (Some space) method params closed = served_verdict method params space closed
-
--- Before an initialize was answered with a result no workspace is in force and nothing else is served, and
--- behind it no other initialize.
-unfoldable pub verdict : List ℕ → Option Data → Option Space → Bool → Verdict
-verdict method params force closed =
-    if is_named (codes "build/initialize") method then (if is_some force then invalid else initialize_verdict params)
-    else verdict_in force method params closed

@@ -6,5 +6,5 @@ use Rattle.session_core.proofs.judging.find_targets.Goals as goal
 
 pub target_named-requires : goal.target_named-requires
 target_named-requires c =
-    subst (λ (i : BuildTargetIdentifier). IsTarget i) (sym c.index-ids-place.is)
-    (All-get_or IsTarget c.args.ids.now c.loop-place.place c.index-ids-place.result c.loop-place-test.true c.requires)
+    subst (λ (i : BuildTargetIdentifier). IsTarget i) (sym c.index-ids-index.is)
+    (All-get_or IsTarget c.args.ids.now c.loop-index.index c.index-ids-index.result c.loop-index-test.true c.requires)

@@ -1,10 +1,8 @@
 use Rattle.std.proofs.Common.{List, ℕ, sym, subst}
-use Rattle.session_core.specs.Judging.{IsSaidOwed, IsShort}
-use Rattle.session_core.specs.declared.verdicts.Owed.{Owed}
+use Rattle.session_core.specs.Judging.{IsShort}
 use Rattle.session_core.proofs.Judged.{short_path}
 use Rattle.session_core.proofs.judging.unknown_target.Goals as goal
 
 pub returns-clause-short : goal.returns-clause-short
 returns-clause-short c =
-    subst (λ (o : Owed). IsSaidOwed o) (sym c.refused.ensures)
-    (subst (λ (path : List ℕ). IsShort path) (sym c.in_ok-target_path.ensures) (short_path c.args.place c.ranges.place.fits))
+    subst (λ (path : List ℕ). IsShort path) (sym c.in_ok-target_path.ensures) (short_path c.args.index c.ranges.index.fits)
