@@ -13,7 +13,7 @@ use Rattle.bsp_records.specs.ShortAnswers.{IsShortId, IsGraphicWithin}
 use Rattle.bsp_records.specs.declared.results.BuildTarget.{BuildTarget}
 use Rattle.bsp_records.specs.declared.results.SourcesItem.{SourcesItem}
 use Rattle.session_answers.proofs.Once.{total, total_front, weighs_less, count_below, distinct_once, all_once, distinct_rising}
-use Rattle.session_law.specs.Once.{each_once}
+use Rattle.ob_text.specs.Once.{each_once}
 use Rattle.session_law.specs.Questions.{described, identifier_at, modules_at, source_at, sources_at, tag_of}
 use Rattle.target_graph.specs.Address.{IsPlainAddress}
 use Rattle.target_graph.specs.Names.{is_name}

@@ -4,7 +4,7 @@ ghost use Rattle.bsp_records.specs.Results.{HasSourceTexts, HasSourcesTexts};
 ghost use Rattle.bsp_records.specs.ShortAnswers.{IsShortSource, IsShortSourcesItem, answer_limit};
 ghost use Rattle.serde_json.specs.View.{view};
 ghost use Rattle.serde_json.specs.Written.{compact_text, has_float};
-ghost use Rattle.session_law.specs.Once.{each_once};
+ghost use Rattle.ob_text.specs.Once.{each_once};
 ghost use Rattle.session_law.specs.Questions.{IsAnswer, inverse_of, source_at, sources_at, sources_of};
 ghost use Rattle.target_graph.specs.Names.{is_path};
 ghost use Rattle.target_graph.specs.Workspace.{AreValid};

@@ -3,7 +3,7 @@ ghost use Rattle.std.specs.List.{All, AllPairs, list_any, slice_get};
 ghost use Rattle.std.specs.Str.{bytes_eq};
 ghost use Rattle.indexmap.specs.IndexSet.{contains};
 ghost use Rattle.session_law.specs.Builds.{ArePlaces, place_of};
-ghost use Rattle.session_law.specs.Once.{each_once, once_more};
+ghost use Rattle.ob_text.specs.Once.{each_once, once_more};
 ghost use Rattle.session_build.specs.Placed.{IsPlain, build_of};
 ghost use Rattle.target_graph.specs.Workspace.{pairs_of};
 ghost use Rattle.target_graph.specs.declared.target.Pair.{Pair};

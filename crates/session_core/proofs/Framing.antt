@@ -16,7 +16,7 @@ use Rattle.serde_json.proofs.OnLiterals.{serde_json_on_literals}
 use Rattle.rpc_peer.specs.declared.message.Id.{Id}
 use Rattle.rpc_peer.specs.declared.message.Id.TheVariants.{Number, Text}
 use Rattle.rpc_peer.specs.Said.{IsId, HasText, id_data, id_limit, answered_data, error_data, version, body_of, result, failure}
-use Rattle.rpc_frame.specs.declared.TheConstants.{CONTENT_LIMIT}
+use Rattle.rpc_frame.specs.Limits.{content_limit}
 use Rattle.bsp_records.specs.Results.{compile_result_data, status_data}
 use Rattle.bsp_records.specs.Shapes.{IsTextWithin}
 use Rattle.bsp_records.specs.ShortAnswers.{answer_limit}
@@ -116,7 +116,7 @@ either_text false = literal_text (codes "invalid request") refl
 
 -- ---- the responses
 
-result_fits : (id : Id) (value : Data) → IsId id → length (members_text true (behind_id value)) ≤ 16500000 → length (body_of (result (Some id) value)) ≤ CONTENT_LIMIT
+result_fits : (id : Id) (value : Data) → IsId id → length (members_text true (behind_id value)) ≤ 16500000 → length (body_of (result (Some id) value)) ≤ content_limit
 unfolding body_of
 result_fits id value h short =
     let whole = length_object (codes "id") (id_data id) (behind_id value) in
@@ -233,7 +233,7 @@ framed_build id origin failed h short =
 
 -- a failure whose error object is short fits
 failure_fits : (id : Option Id) (code : ℤ) (text : List ℕ) → length (compact_text (answered_data id)) ≤ id_text_limit
-    → length (compact_text (error_data code text)) ≤ 40000 → length (body_of (failure id code text)) ≤ CONTENT_LIMIT
+    → length (compact_text (error_data code text)) ≤ 40000 → length (body_of (failure id code text)) ≤ content_limit
 unfolding body_of
 failure_fits id code text answered short =
     let whole = length_object (codes "error") (error_data code text) (member (codes "id") (answered_data id) behind_failed_id) in

@@ -8,7 +8,7 @@ ghost use Rattle.session_law.specs.Builds.{build_said};
 ghost use Rattle.session_law.specs.IsFramed.{IsFramed};
 ghost use Rattle.session_law.specs.Methods.{capabilities, initialize_result, null_message};
 ghost use Rattle.session_core.specs.Acting.{answer_unread};
-ghost use Rattle.session_core.specs.Judging.{answer_to};
+ghost use Rattle.session_core.specs.Judging.{reason_code, reason_text};
 
 use crate::verdicts::Reason;
 use bsp_records::{CompileResult, StatusCode, write_compile_result};
@@ -22,7 +22,7 @@ pub const PARSE_ERROR: i32 = -32700;
 
 /// The response that refuses a request for this reason.
 pub fn refusal(alloc: Global, id: Id, reason: &Reason) -> Result<Message, NoMemory>
-    ensures { IfOk result (λ m. said m ≡ answer_to id (Answer.Refused reason.now)) }
+    ensures { IfOk result (λ m. said m ≡ failure (Some id) (reason_code reason.now) (reason_text reason.now)) }
 {
     let message = reason.message(alloc)?;
     Ok(failure(Some(id), reason.code(), message))

@@ -25,7 +25,7 @@ use Rattle.target_graph.specs.Workspace.{Space, IsClosure, pairs_of, id_of}
 use Rattle.target_graph.specs.declared.target.Pair.{Pair}
 use Rattle.task_stream.specs.Pieces.{pieces}
 use Rattle.session_law.specs.Methods.{Build, is_named}
-use Rattle.session_law.specs.Once.{each_once}
+use Rattle.ob_text.specs.Once.{each_once}
 use Rattle.session_law.specs.Order.{Entries}
 use Rattle.session_law.specs.declared.Place.{Place}
 

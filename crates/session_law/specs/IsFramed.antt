@@ -1,7 +1,7 @@
 -- IsFramed: each write is a whole message of the server.
 use Rattle.std.specs.Prelude.{◌≡◌, ◌≤◌, ℕ, List, length, codes, true, false}
 use Rattle.rpc_frame.specs.Frames.{written_frame}
-use Rattle.rpc_frame.specs.declared.TheConstants.{CONTENT_LIMIT}
+use Rattle.rpc_frame.specs.Limits.{content_limit}
 use Rattle.rpc_peer.specs.Said.{Said, request, notification, result, failure, HasTexts, said_data, body_of}
 use Rattle.serde_json.specs.Written.{has_float}
 use Rattle.session_law.specs.Methods.{is_named}
@@ -22,4 +22,4 @@ pub record IsFramed (m : Said) : Type 0 where
   pub of_server : IsOfServer m
   pub texts : HasTexts m
   pub exact : has_float (said_data m) ≡ false
-  pub fits : length (body_of m) ≤ CONTENT_LIMIT
+  pub fits : length (body_of m) ≤ content_limit

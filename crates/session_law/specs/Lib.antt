@@ -6,7 +6,6 @@ pub mod If
 pub mod IsFramed
 pub mod Lawful
 pub mod Methods
-pub mod Once
 pub mod Order
 pub mod Past
 pub mod PublishesInBuildsOnly

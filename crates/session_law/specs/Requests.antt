@@ -82,9 +82,9 @@ marked_where cancels (asked ∷ others) = marked_if (cancels asked) asked ∷ ma
 abbrev pub all_marked : List Asked → List Asked
 all_marked requests = marked_where (λ asked. true) requests
 
-abbrev pub has_id : Option Id → Asked → Bool
-has_id None asked = false
-has_id (Some id) asked = same_id id asked.id
+abbrev pub has_this_id : Option Id → Asked → Bool
+has_this_id None asked = false
+has_this_id (Some id) asked = same_id id asked.id
 
 -- the id that a cancel names (Language Server Protocol 3.17, CancelParams)
 abbrev pub cancelled_id : Option Data → Option Id
@@ -93,7 +93,7 @@ cancelled_id params = option_and_then (λ d. id_of (at (codes "id") d)) params
 -- a notification cancels the request
 abbrev pub cancels : List ℕ → Option Data → Asked → Bool
 cancels method params asked =
-    is_named (codes "build/exit") method || (is_named (codes "$/cancelRequest") method && has_id (cancelled_id params) asked)
+    is_named (codes "build/exit") method || (is_named (codes "$/cancelRequest") method && has_this_id (cancelled_id params) asked)
 
 abbrev pub is_closing : Verdict → Bool
 is_closing closing = true

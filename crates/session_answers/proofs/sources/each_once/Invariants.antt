@@ -1,5 +1,5 @@
 use Rattle.std.proofs.Common.{◌≡◌, eqb, take}
-use Rattle.session_law.specs.Once.{each_once}
+use Rattle.ob_text.specs.Once.{each_once}
 use Rattle.session_answers.proofs.sources.each_once.Given as goal
 
 abbrev pub invariant-loop-number : goal.invariant-loop-number

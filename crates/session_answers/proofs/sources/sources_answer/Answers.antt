@@ -7,7 +7,7 @@ use Rattle.bsp_records.specs.ShortAnswers.{IsShortSourcesItem}
 use Rattle.bsp_records.specs.declared.results.SourcesItem.{SourcesItem}
 use Rattle.session_answers.proofs.Once.{all_once}
 use Rattle.session_answers.proofs.Told.{few_items, few_documents}
-use Rattle.session_law.specs.Once.{each_once}
+use Rattle.ob_text.specs.Once.{each_once}
 use Rattle.session_law.specs.Questions.{sources_at}
 use Rattle.target_graph.specs.declared.target.Target.{Target}
 use Rattle.session_answers.proofs.sources.sources_answer.Goals as goal

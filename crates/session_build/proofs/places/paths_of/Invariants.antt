@@ -1,5 +1,5 @@
 use Rattle.std.proofs.Common.{◌≡◌, bytes_eq, map, take}
-use Rattle.session_law.specs.Once.{each_once}
+use Rattle.ob_text.specs.Once.{each_once}
 use Rattle.session_law.specs.declared.Place.{Place}
 use Rattle.session_build.proofs.places.paths_of.Given as goal
 
