@@ -47,7 +47,7 @@ fn body(alloc: Global, message: Message) -> Result<Vec<u8>, NoMemory>
 }
 
 /// Writes a message as a frame. `frame` is room for it, which each message uses anew.
-#[tactic(auto, unfolding(session_law::specs::Lawful::text_of))]
+#[tactic(auto, unfolding(session_law::specs::IsFramed::text_of))]
 fn send<K: Sink>(
     alloc: Global,
     output: &mut K,

@@ -8,7 +8,7 @@ use Rattle.std.specs.Str.{bytes_eq}
 use Rattle.std.proofs.lemmas.List.{drop_more}
 use Rattle.std.proofs.lemmas.List.Elements.{All-head, All-tail}
 use Rattle.std.proofs.lemmas.Option.{slice_get_read}
-use Rattle.bsp_edge.specs.Documents.{IsReadable}
+use Rattle.ob_text.specs.Held.{IsReadable}
 use Rattle.ob_text.specs.Held.{held_at}
 use Rattle.ob_text.specs.declared.held.Held.{Held}
 use Rattle.session_law.specs.Order.{Entries}

@@ -1,6 +1,6 @@
 ghost use Rattle.std.specs.Prelude.{◌≡◌, ◌≢◌, ◌++◌, ◌||◌, ℕ, map, IfOk, IfSome, OnOk};
 ghost use Rattle.std.specs.List.{All, AllPairs, list_any};
-ghost use Rattle.bsp_edge.specs.Documents.{IsReadable};
+ghost use Rattle.ob_text.specs.Held.{IsReadable};
 ghost use Rattle.bsp_records.specs.Diagnostics.{HasPublishTexts, publish_diagnostics_params_data};
 ghost use Rattle.bsp_records.specs.Shapes.{IsTextWithin};
 ghost use Rattle.bsp_records.specs.Short.{IsShortPublication};

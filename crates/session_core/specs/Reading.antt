@@ -2,7 +2,7 @@
 use Rattle.std.specs.Prelude.{Option}
 use Rattle.std.specs.List.{All}
 use Rattle.std.specs.Option.{IfSome}
-use Rattle.bsp_edge.specs.Documents.{IsReadable}
+use Rattle.ob_text.specs.Held.{IsReadable}
 use Rattle.session_law.specs.Order.{Entries}
 
 -- each text that was handed out is a document

@@ -2,7 +2,7 @@
 -- session is before it.
 use Rattle.std.specs.Prelude.{◌≡◌, ℕ, List, [], ◌∷◌, map, Option, None, IfSome}
 use Rattle.std.specs.List.{All}
-use Rattle.bsp_edge.specs.Documents.{IsReadable}
+use Rattle.ob_text.specs.Held.{IsReadable}
 use Rattle.rpc_peer.specs.Said.{Said}
 use Rattle.session_law.specs.AnswersAtOnce.{IsCaughtUp}
 use Rattle.session_law.specs.AnswersOnce.{AnswersOnce}

@@ -2,7 +2,7 @@
 use Rattle.std.specs.Prelude.{◌≡◌, ◌||◌, ◌&&◌, ℕ, ℤ, List, [], ◌∷◌, ◌++◌, codes, Bool, true, false, Option, Some, None, is_some, option_and_then, Result, Ok, Err, if◌then◌else◌}
 use Rattle.bsp_records.specs.Shapes.{at}
 use Rattle.rpc_peer.specs.declared.message.Id.{Id}
-use Rattle.rpc_peer.specs.Meaning.{id_of}
+use Rattle.rpc_peer.specs.Meaning.{id_in}
 use Rattle.rpc_peer.specs.OpenIds.{same_id}
 use Rattle.rpc_peer.specs.Said.{Said, request, notification, result, failure}
 use Rattle.serde_json.specs.Data.{Data}
@@ -88,7 +88,7 @@ has_this_id (Some id) asked = same_id id asked.id
 
 -- the id that a cancel names (Language Server Protocol 3.17, CancelParams)
 abbrev pub cancelled_id : Option Data → Option Id
-cancelled_id params = option_and_then (λ d. id_of (at (codes "id") d)) params
+cancelled_id params = option_and_then (λ d. id_in (at (codes "id") d)) params
 
 -- a notification cancels the request
 abbrev pub cancels : List ℕ → Option Data → Asked → Bool
