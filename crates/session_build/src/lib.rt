@@ -1,4 +1,8 @@
 //! A build: the documents that it is of, and what is published of their diagnostics.
+//!
+//! It stands on `target_graph` for the documents, on `oberon_check` for their diagnostics, on `task_stream` for what
+//! a client shows, and on `session_law`, which says what a build publishes. It knows one build, and nothing of other
+//! requests. Begin with `publish_all` and `specs/Publishing.antt`.
 #![tactic(auto)]
 
 mod handed;

@@ -1,5 +1,5 @@
-use crate::Core;
 use rpc_peer::{Id, Message};
+use session_core::Core;
 use std::test::Fail;
 
 #[test]
