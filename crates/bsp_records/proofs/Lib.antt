@@ -1,6 +1,6 @@
 pub mod ListLaws
 pub mod ShownLaws
 pub mod ExactLaws
-pub mod PathLaws
+pub mod ParamsLaws
 pub mod ShortLaws
 pub mod AnswerLaws

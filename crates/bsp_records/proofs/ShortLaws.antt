@@ -30,7 +30,7 @@ use Rattle.bsp_records.specs.Writing.{with_member, with_members, object_with, ar
 use Rattle.bsp_records.specs.declared.diagnostics.DiagnosticRecord.{DiagnosticRecord}
 use Rattle.bsp_records.specs.declared.diagnostics.DiagnosticSeverity.{DiagnosticSeverity}
 use Rattle.bsp_records.specs.declared.diagnostics.DiagnosticSeverity.TheVariants.{Error, Warning, Information, Hint}
-use Rattle.bsp_records.specs.declared.kinds.TheConstants.{ORIGIN_LIMIT}
+use Rattle.bsp_records.specs.Limits.{origin_limit}
 use Rattle.bsp_records.specs.declared.publishing.PublishDiagnosticsParams.{PublishDiagnosticsParams}
 
 through : {a b c : ℕ} → a ≤ b → b ≤ c → a ≤ c
@@ -221,7 +221,7 @@ publication_short p short =
     ∷ (codes "originId", option_map string p.origin_id) ∷ (codes "diagnostics", Some (array_with (map diagnostic_data p.diagnostics))) ∷ (codes "reset", Some (boolean p.reset)) ∷ []))
     (let document = identifier_short p.text_document.uri short.document in
     let target = identifier_short p.build_target.uri short.target in
-    let origin = text_room (codes "originId") ORIGIN_LIMIT p.origin_id short.origin in
+    let origin = text_room (codes "originId") origin_limit p.origin_id short.origin in
     let few = short.count in
     let items = list_room diagnostic_data IsShortRecord (suc record_room) (λ r short. omega (arith, diagnostic_short r short)) p.diagnostics short.diagnostics in
     let list = array_short (map diagnostic_data p.diagnostics) in

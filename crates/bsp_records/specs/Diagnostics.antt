@@ -7,7 +7,7 @@ use Rattle.std.specs.Str.{IsUtf8}
 use Rattle.ob_text.specs.declared.position.Position.{Position}
 use Rattle.ob_text.specs.declared.position.Range.{Range}
 use Rattle.serde_json.specs.Data.{Data, unsigned, boolean, number, string}
-use Rattle.bsp_records.specs.Shapes.{Shape, text, count, whole, flag, label, list_of, object_of, required, optional, no_more, at, text_in, label_in, whole_in, flag_in, values_in}
+use Rattle.json_shape.specs.Shapes.{Shape, text, count, whole, flag, label, list_of, object_of, required, optional, no_more, at, text_in, label_in, whole_in, flag_in, values_in}
 use Rattle.bsp_records.specs.Reading.{Is, Bad, if_there}
 use Rattle.bsp_records.specs.Writing.{object_with, array_with}
 use Rattle.bsp_records.specs.Identifiers.{identifier, target_in, document_in, identifier_data}

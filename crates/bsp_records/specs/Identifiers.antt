@@ -1,7 +1,7 @@
 -- The records that name a build target and a document (Build Server Protocol 2.2).
 use Rattle.std.specs.Prelude.{ℕ, List, [], ◌∷◌, codes, Some}
 use Rattle.serde_json.specs.Data.{Data, string}
-use Rattle.bsp_records.specs.Shapes.{Shape, text, object_of, required, no_more, at, text_in}
+use Rattle.json_shape.specs.Shapes.{Shape, text, object_of, required, no_more, at, text_in}
 use Rattle.bsp_records.specs.Writing.{object_with}
 use Rattle.bsp_records.specs.declared.identifiers.BuildTargetIdentifier.{BuildTargetIdentifier}
 use Rattle.bsp_records.specs.declared.identifiers.TextDocumentIdentifier.{TextDocumentIdentifier}

@@ -1,6 +1,6 @@
-pub mod Shapes
+pub mod Limits
 pub mod Reading
-pub mod Paths
+pub mod Shapes
 pub mod Short
 pub mod Writing
 pub mod Identifiers

@@ -4,11 +4,11 @@ use Rattle.std.specs.List.{All}
 use Rattle.std.specs.Option.{IfSome}
 use Rattle.std.specs.Str.{IsUtf8}
 use Rattle.serde_json.specs.Data.{Data}
-use Rattle.bsp_records.specs.Shapes.{Shape, text, text_within, list_of, object_of, required, optional, no_more, at, text_in, values_in, IsTextWithin}
+use Rattle.json_shape.specs.Shapes.{Shape, text, text_within, list_of, object_of, required, optional, no_more, at, text_in, values_in, IsTextWithin}
 use Rattle.bsp_records.specs.Reading.{Is, Bad, if_there}
 use Rattle.bsp_records.specs.Identifiers.{identifier, target_in, document_in}
 use Rattle.bsp_records.specs.declared.identifiers.BuildTargetIdentifier.{BuildTargetIdentifier}
-use Rattle.bsp_records.specs.declared.kinds.TheConstants.{ORIGIN_LIMIT, ROOT_LIMIT}
+use Rattle.bsp_records.specs.Limits.{origin_limit, root_limit}
 use Rattle.bsp_records.specs.declared.params.BuildClientCapabilities.{BuildClientCapabilities}
 use Rattle.bsp_records.specs.declared.params.InitializeParams.{InitializeParams}
 use Rattle.bsp_records.specs.declared.params.SourcesParams.{SourcesParams}
@@ -28,7 +28,7 @@ initialize_params =
     object_of (required (codes "displayName") text
     (required (codes "version") text
     (required (codes "bspVersion") text
-    (required (codes "rootUri") (text_within ROOT_LIMIT)
+    (required (codes "rootUri") (text_within root_limit)
     (required (codes "capabilities") client_capabilities no_more)))))
 
 abbrev pub client_capabilities_in : Data → BuildClientCapabilities
@@ -94,7 +94,7 @@ BadCleanCacheParams = Bad targets_params
 abbrev pub build_params : Shape
 build_params =
     object_of (required (codes "targets") (list_of identifier)
-    (optional (codes "originId") (text_within ORIGIN_LIMIT)
+    (optional (codes "originId") (text_within origin_limit)
     (optional (codes "arguments") (list_of text) no_more)))
 
 abbrev pub compile_params_in : Data → CompileParams
@@ -118,7 +118,7 @@ BadTestParams = Bad build_params
 abbrev pub run_params : Shape
 run_params =
     object_of (required (codes "target") identifier
-    (optional (codes "originId") (text_within ORIGIN_LIMIT)
+    (optional (codes "originId") (text_within origin_limit)
     (optional (codes "arguments") (list_of text) no_more)))
 
 abbrev pub run_params_in : Data → RunParams
@@ -139,17 +139,17 @@ pub record HasInitializeTexts (p : InitializeParams) : Type 0 where
   pub display_name : IsUtf8 p.display_name
   pub version : IsUtf8 p.version
   pub bsp_version : IsUtf8 p.bsp_version
-  pub root_uri : IsTextWithin ROOT_LIMIT p.root_uri
+  pub root_uri : IsTextWithin root_limit p.root_uri
   pub language_ids : All IsUtf8 p.capabilities.language_ids
 
 pub record HasCompileTexts (p : CompileParams) : Type 0 where
   pub targets : All IsTarget p.targets
-  pub origin_id : IfSome p.origin_id (IsTextWithin ORIGIN_LIMIT)
+  pub origin_id : IfSome p.origin_id (IsTextWithin origin_limit)
 
 pub record HasTestTexts (p : TestParams) : Type 0 where
   pub targets : All IsTarget p.targets
-  pub origin_id : IfSome p.origin_id (IsTextWithin ORIGIN_LIMIT)
+  pub origin_id : IfSome p.origin_id (IsTextWithin origin_limit)
 
 pub record HasRunTexts (p : RunParams) : Type 0 where
   pub target : IsTarget p.target
-  pub origin_id : IfSome p.origin_id (IsTextWithin ORIGIN_LIMIT)
+  pub origin_id : IfSome p.origin_id (IsTextWithin origin_limit)

@@ -1,9 +1,14 @@
--- What a reader answers.
-use Rattle.std.specs.Prelude.{◌≡◌, ℕ, List, Option, Some, None, if◌then◌else◌, Result, Ok, Err}
+-- What a reader of params answers.
+use Rattle.std.specs.Prelude.{◌≡◌, ℕ, List, Option, Some, None, codes}
+use Rattle.ob_text.specs.Ascii.{IsPlain}
 use Rattle.serde_json.specs.Data.{Data}
-use Rattle.bsp_records.specs.Shapes.{Shape, bad_params, is_null}
-use Rattle.bsp_records.specs.declared.bad_params.BadParams.{BadParams}
-use Rattle.bsp_records.specs.declared.bad_params.BadParams.TheVariants.{At, NoMemory}
+use Rattle.json_shape.specs.Shapes.{Shape, bad_named}
+use Rattle.bsp_records.specs.Limits.{path_limit}
+pub use Rattle.json_shape.specs.Reading.{IfBad, ReadBy, Reads, if_there}
+
+-- the path of the first bad field of params; params that are no object are bad at `params`
+abbrev pub bad_params : Shape → Data → Option (List ℕ)
+bad_params shape d = bad_named (codes "params") shape d
 
 -- params with no bad field are the record that they stand for
 abbrev pub Is : {A : Type 0} → Shape → (Data → A) → Data → A → Type 0
@@ -13,23 +18,6 @@ Is shape of d x = (bad_params shape d ≡ None) × (x ≡ of d)
 abbrev pub Bad : Shape → Data → List ℕ → Type 0
 Bad shape d path = bad_params shape d ≡ Some path
 
--- A record that was read is the value's, and a refusal has the path of the first bad field. Want of
--- memory says nothing.
-abbrev pub ReadBy : {A : Type 0} → (A → Type 0) → (List ℕ → Type 0) → Result A BadParams → Type 0
-ReadBy IsRead IsBad (Ok x) = IsRead x
-ReadBy IsRead IsBad (Err (At path)) = IsBad path
-ReadBy IsRead IsBad (Err NoMemory) = Unit {0}
-
--- what is said of the path of a refusal
-abbrev pub IfBad : {A : Type 0} → Result A BadParams → (List ℕ → Type 0) → Type 0
-IfBad (Ok x) Said = Unit {0}
-IfBad (Err (At path)) Said = Said path
-IfBad (Err NoMemory) Said = Unit {0}
-
--- a read of a part of a value that is bad at this place, if at any, and that else stands for this
-abbrev pub Reads : {A : Type 0} → Option (List ℕ) → A → Result A BadParams → Type 0
-Reads found x result = ReadBy (λ y. (found ≡ None) × (y ≡ x)) (λ path. found ≡ Some path) result
-
--- what a member stands for that may be absent
-abbrev pub if_there : {A : Type 0} → (Data → A) → Data → Option A
-if_there of d = if is_null d then None else Some (of d)
+-- a path that is told: plain ASCII, and short
+abbrev pub IsPlainPath : List ℕ → Type 0
+IsPlainPath path = IsPlain path_limit path

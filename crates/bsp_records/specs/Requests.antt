@@ -6,9 +6,10 @@ use Rattle.std.specs.List.{All, find}
 use Rattle.std.specs.Str.{IsUtf8}
 use Rattle.serde_json.specs.Data.{Data, null}
 use Rattle.bsp_records.specs.Params.{initialize_params, initialize_params_in, targets_params, sources_params_in, inverse_sources_params, inverse_sources_params_in, build_params, compile_params_in, IsTarget, HasInitializeTexts, HasCompileTexts}
-use Rattle.bsp_records.specs.Shapes.{Shape, bad_params}
-use Rattle.bsp_records.specs.declared.bad_params.BadParams.{BadParams}
-use Rattle.bsp_records.specs.declared.bad_params.BadParams.TheVariants.{At, NoMemory}
+use Rattle.json_shape.specs.Shapes.{Shape}
+use Rattle.bsp_records.specs.Reading.{bad_params}
+use Rattle.json_shape.specs.declared.bad_value.BadValue.{BadValue}
+use Rattle.json_shape.specs.declared.bad_value.BadValue.TheVariants.{At, NoMemory}
 use Rattle.bsp_records.specs.declared.requests.Method.{Method}
 use Rattle.bsp_records.specs.declared.requests.Method.TheVariants as methods
 use Rattle.bsp_records.specs.declared.requests.Request.{Request}
@@ -55,7 +56,7 @@ request_in methods.InverseSources params = asked_by inverse_sources_params (λ d
 request_in methods.Compile params = asked_by build_params (λ d. requests.Compile (compile_params_in d)) params
 
 -- What was read is the request that was asked, and a refusal has the path. Want of memory says nothing.
-abbrev pub ReadsAs : Result Request (List ℕ) → Result Request BadParams → Type 0
+abbrev pub ReadsAs : Result Request (List ℕ) → Result Request BadValue → Type 0
 ReadsAs asked (Ok request) = asked ≡ Ok request
 ReadsAs asked (Err (At path)) = asked ≡ Err path
 ReadsAs asked (Err NoMemory) = Unit {0}

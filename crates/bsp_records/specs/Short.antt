@@ -5,11 +5,9 @@ use Rattle.std.specs.List.{All}
 use Rattle.std.specs.Option.{IfSome}
 use Rattle.ob_text.specs.declared.position.Position.{Position}
 use Rattle.bsp_records.specs.declared.diagnostics.DiagnosticRecord.{DiagnosticRecord}
-use Rattle.bsp_records.specs.declared.kinds.TheConstants.{ORIGIN_LIMIT}
+pub use Rattle.ob_text.specs.Ascii.{IsWithin}
+use Rattle.bsp_records.specs.Limits.{origin_limit}
 use Rattle.bsp_records.specs.declared.publishing.PublishDiagnosticsParams.{PublishDiagnosticsParams}
-
-abbrev pub IsWithin : ℕ → List ℕ → Type 0
-IsWithin limit text = length text ≤ limit
 
 -- a place whose numbers have 32 bits
 pub record IsShortPosition (p : Position) : Type 0 where
@@ -30,11 +28,15 @@ address_limit = 4400
 abbrev pub IsShortAddress : List ℕ → Type 0
 IsShortAddress = IsWithin address_limit
 
+-- the most diagnostics of one publication
+abbrev pub diagnostics_limit : ℕ
+diagnostics_limit = 100
+
 pub record IsShortPublication (p : PublishDiagnosticsParams) : Type 0 where
   pub document : IsShortAddress p.text_document.uri
   pub target : IsShortAddress p.build_target.uri
-  pub origin : IfSome p.origin_id (IsWithin ORIGIN_LIMIT)
-  pub count : length p.diagnostics ≤ 100
+  pub origin : IfSome p.origin_id (IsWithin origin_limit)
+  pub count : length p.diagnostics ≤ diagnostics_limit
   pub diagnostics : All IsShortRecord p.diagnostics
 
 -- the most bytes that the params of a short publication print as

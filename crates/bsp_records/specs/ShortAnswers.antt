@@ -1,9 +1,9 @@
 -- Answers that are short and have only printing characters, as those about a workspace are: their
 -- results print in a frame.
-use Rattle.std.specs.Prelude.{◌≡◌, ◌≤◌, ℕ, List, length, true, flat_map}
-use Rattle.std.specs.Char.{is_ascii_graphic}
-use Rattle.std.specs.List.{All, list_all}
-use Rattle.bsp_records.specs.Short.{IsWithin, address_limit}
+use Rattle.std.specs.Prelude.{◌≤◌, ℕ, List, length, flat_map}
+pub use Rattle.ob_text.specs.Ascii.{IsGraphic, IsGraphicWithin}
+use Rattle.std.specs.List.{All}
+use Rattle.bsp_records.specs.Short.{address_limit}
 use Rattle.bsp_records.specs.declared.identifiers.BuildTargetIdentifier.{BuildTargetIdentifier}
 use Rattle.bsp_records.specs.declared.results.BuildTarget.{BuildTarget}
 use Rattle.bsp_records.specs.declared.results.BuildTargetsResult.{BuildTargetsResult}
@@ -11,14 +11,6 @@ use Rattle.bsp_records.specs.declared.results.InverseSourcesResult.{InverseSourc
 use Rattle.bsp_records.specs.declared.results.SourceItem.{SourceItem}
 use Rattle.bsp_records.specs.declared.results.SourcesItem.{SourcesItem}
 use Rattle.bsp_records.specs.declared.results.SourcesResult.{SourcesResult}
-
--- each byte is a printing character of ASCII
-abbrev pub IsGraphic : List ℕ → Type 0
-IsGraphic text = list_all is_ascii_graphic text ≡ true
-
-pub record IsGraphicWithin (limit : ℕ) (text : List ℕ) : Type 0 where
-  pub graphic : IsGraphic text
-  pub short : IsWithin limit text
 
 -- a short address of a document or a target
 abbrev pub IsShortId : List ℕ → Type 0

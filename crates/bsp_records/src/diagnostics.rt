@@ -1,10 +1,9 @@
 ghost use Rattle.std.specs.Prelude.{⊤};
 
 use crate::bad_params::BadParams;
-use crate::kinds::{LabelKind, plain};
-use crate::numbers::read_whole;
-use crate::reading::{Read, bad_here, optional, required};
+use crate::kinds::plain;
 use crate::writing::{Write, put, put_some};
+use json_shape::{LabelKind, Read, bad_here, optional, read_between, required};
 use ob_text::{Bytes, NoMemory, Position, Range, Text};
 use serde_json::{Map, Value};
 use std::alloc::Global;
@@ -30,22 +29,30 @@ pub struct DiagnosticRecord {
     pub message: Text,
 }
 
-impl Read for Position {
+/// A position as a record that is read.
+#[derive(Drop)]
+struct PositionRecord(Position);
+
+/// A range as a record that is read.
+#[derive(Drop)]
+struct RangeRecord(Range);
+
+impl Read for PositionRecord {
     ghost use Rattle.bsp_records.specs.Diagnostics.{position, position_in};
 
     ghost shape = { position };
 
-    ghost value_in = { position_in };
+    ghost value_in = { λ d. record { 0 = position_in d } };
 
     ghost HasTexts = { λ _. ⊤ };
 
-    fn read(alloc: Global, value: &Value) -> Result<Position, BadParams> {
+    fn read(alloc: Global, value: &Value) -> Result<PositionRecord, BadParams> {
         if !value.is_object() {
             return Err(bad_here(alloc));
         }
         let line = required(alloc, value, "line")?;
         let character = required(alloc, value, "character")?;
-        Ok(Position { line, character })
+        Ok(PositionRecord(Position { line, character }))
     }
 }
 
@@ -64,22 +71,22 @@ impl Write for Position {
     }
 }
 
-impl Read for Range {
+impl Read for RangeRecord {
     ghost use Rattle.bsp_records.specs.Diagnostics.{range, range_in};
 
     ghost shape = { range };
 
-    ghost value_in = { range_in };
+    ghost value_in = { λ d. record { 0 = range_in d } };
 
     ghost HasTexts = { λ _. ⊤ };
 
-    fn read(alloc: Global, value: &Value) -> Result<Range, BadParams> {
+    fn read(alloc: Global, value: &Value) -> Result<RangeRecord, BadParams> {
         if !value.is_object() {
             return Err(bad_here(alloc));
         }
-        let start = required(alloc, value, "start")?;
-        let end = required(alloc, value, "end")?;
-        Ok(Range { start, end })
+        let PositionRecord(start) = required(alloc, value, "start")?;
+        let PositionRecord(end) = required(alloc, value, "end")?;
+        Ok(RangeRecord(Range { start, end }))
     }
 }
 
@@ -108,7 +115,7 @@ impl Read for DiagnosticSeverity {
     ghost HasTexts = { λ _. ⊤ };
 
     fn read(alloc: Global, value: &Value) -> Result<DiagnosticSeverity, BadParams> {
-        match read_whole(alloc, value, 1, 4)? {
+        match read_between(alloc, value, 1, 4)? {
             1 => Ok(DiagnosticSeverity::Error),
             2 => Ok(DiagnosticSeverity::Warning),
             3 => Ok(DiagnosticSeverity::Information),
@@ -142,7 +149,7 @@ impl Read for DiagnosticRecord {
         if !value.is_object() {
             return Err(bad_here(alloc));
         }
-        let range = required(alloc, value, "range")?;
+        let RangeRecord(range) = required(alloc, value, "range")?;
         let severity = optional(alloc, value, "severity")?;
         let code = plain(optional::<Bytes<LabelKind>>(alloc, value, "code")?);
         let source = optional(alloc, value, "source")?;

@@ -1,8 +1,8 @@
 ghost use Rattle.std.specs.Str.{IsUtf8};
 
 use crate::bad_params::BadParams;
-use crate::reading::{Read, bad_here, required};
 use crate::writing::{Write, put};
+use json_shape::{Read, bad_here, required};
 use ob_text::{NoMemory, Text};
 use serde_json::{Map, Value};
 use std::alloc::Global;

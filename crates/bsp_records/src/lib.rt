@@ -1,5 +1,9 @@
-//! The records of the Build Server Protocol 2.2: what is read of a JSON value, and what is written
-//! as one.
+//! The records of the Build Server Protocol 2.2: what is read of a JSON value, and what is written as one; and
+//! what of them is short enough for a frame.
+//!
+//! It stands on `json_shape` for reading, on `ob_text`, and on `serde_json`. It knows the protocol's records,
+//! and nothing of a session. Begin with `specs/Params.antt` and `params.rt`, then `Requests.antt` and
+//! `requests.rt`, which read a request by its method.
 #![tactic(auto)]
 
 mod bad_params;
@@ -17,7 +21,7 @@ mod shown;
 mod tasks;
 mod writing;
 
-pub use bad_params::{BadParams, PATH_LIMIT};
+pub use bad_params::BadParams;
 pub use diagnostics::{DiagnosticRecord, DiagnosticSeverity};
 pub use identifiers::{BuildTargetIdentifier, TextDocumentIdentifier};
 pub use kinds::{ORIGIN_LIMIT, ROOT_LIMIT};
@@ -48,6 +52,3 @@ pub use tasks::{
     TaskStartParams, TestFinish, TestReport, TestStart, TestStatus, TestTask,
     write_task_finish_params, write_task_start_params,
 };
-
-#[cfg(test)]
-mod tests;

@@ -1,17 +1,20 @@
 ghost use Rattle.std.specs.Prelude.{◌+◌, ◌≤◌, codes, length, suc, IfOk, IfSome};
 ghost use Rattle.std.specs.List.{All};
-ghost use Rattle.std.specs.Str.{IsAscii, IsUtf8};
+ghost use Rattle.std.specs.Str.{IsUtf8};
+ghost use Rattle.ob_text.specs.Ascii.{IsGraphic};
 ghost use Rattle.serde_json.specs.View.{view};
 ghost use Rattle.bsp_records.specs.Params.{client_capabilities, client_capabilities_in, initialize_params, initialize_params_in, targets_params, sources_params_in, clean_cache_params_in, inverse_sources_params, inverse_sources_params_in, build_params, compile_params_in, test_params_in, run_params, run_params_in, IsTarget, IsInitializeParams, BadInitializeParams, IsInverseSourcesParams, BadInverseSourcesParams, IsSourcesParams, BadSourcesParams, IsCleanCacheParams, BadCleanCacheParams, IsCompileParams, BadCompileParams, IsTestParams, BadTestParams, IsRunParams, BadRunParams, HasInitializeTexts, HasCompileTexts, HasTestTexts, HasRunTexts};
-ghost use Rattle.bsp_records.specs.Paths.{longest, IsPlainPath};
-ghost use Rattle.bsp_records.specs.Reading.{ReadBy, Reads, IfBad, if_there};
-ghost use Rattle.bsp_records.specs.Shapes.{at, bad, bad_if_there, text, text_in, text_within, list_of, member_step, under, IsTextWithin};
+ghost use Rattle.bsp_records.specs.Limits.{origin_limit};
+ghost use Rattle.bsp_records.specs.Reading.{IfBad, IsPlainPath, ReadBy, Reads, if_there};
+ghost use Rattle.json_shape.specs.Paths.{longest};
+ghost use Rattle.json_shape.specs.Shapes.{at, bad, bad_if_there, text, text_in, text_within, list_of, member_step, under, IsTextWithin};
 
 use crate::bad_params::BadParams;
 use crate::identifiers::{BuildTargetIdentifier, TextDocumentIdentifier};
-use crate::kinds::{AnyText, ORIGIN_LIMIT, OriginKind, RootKind, as_text, plain};
-use crate::reading::{Read, bad_here, optional, read_params, required};
-use ob_text::{Bytes, Items, Text};
+use crate::kinds::{OriginId, RootUri};
+use crate::reading::read_params;
+use json_shape::{AnyText, Read, bad_here, optional, required, text_within};
+use ob_text::{Items, Text};
 use serde_json::Value;
 use std::alloc::Global;
 
@@ -22,7 +25,7 @@ pub struct BuildClientCapabilities {
 }
 
 /// Who the client is, and where its workspace lies (Build Server Protocol 2.2, build/initialize).
-/// `root_uri` has at most `ROOT_LIMIT` bytes.
+/// `root_uri` has at most 4,096 bytes.
 #[derive(Debug, Drop)]
 pub struct InitializeParams {
     pub display_name: Text,
@@ -51,7 +54,7 @@ pub struct InverseSourcesParams {
 }
 
 /// The targets to check (Build Server Protocol 2.2, buildTarget/compile). `origin_id` has at most
-/// `ORIGIN_LIMIT` bytes, and of `arguments` only the kind is looked at.
+/// 1,024 bytes, and of `arguments` only the kind is looked at.
 #[derive(Debug, Drop)]
 pub struct CompileParams {
     pub targets: Items<BuildTargetIdentifier>,
@@ -59,7 +62,7 @@ pub struct CompileParams {
 }
 
 /// The targets to test (Build Server Protocol 2.2, buildTarget/test). `origin_id` has at most
-/// `ORIGIN_LIMIT` bytes, and of `arguments` only the kind is looked at.
+/// 1,024 bytes, and of `arguments` only the kind is looked at.
 #[derive(Debug, Drop)]
 pub struct TestParams {
     pub targets: Items<BuildTargetIdentifier>,
@@ -67,7 +70,7 @@ pub struct TestParams {
 }
 
 /// The application to run (Build Server Protocol 2.2, buildTarget/run). `origin_id` has at most
-/// `ORIGIN_LIMIT` bytes, and of `arguments` only the kind is looked at.
+/// 1,024 bytes, and of `arguments` only the kind is looked at.
 #[derive(Debug, Drop)]
 pub struct RunParams {
     pub target: BuildTargetIdentifier,
@@ -147,19 +150,22 @@ pub fn read_run_params(alloc: Global, value: &Value) -> Result<RunParams, BadPar
 
 fn read_origin(alloc: Global, value: &Value) -> Result<Option<Text>, BadParams>
     ensures read { Reads (under (member_step (codes "originId"))
-        (bad_if_there (bad (text_within ORIGIN_LIMIT)) (at (codes "originId") (view value.now))))
+        (bad_if_there (bad (text_within origin_limit)) (at (codes "originId") (view value.now))))
         (if_there text_in (at (codes "originId") (view value.now))) result }
-    ensures texts { IfOk result (λ origin. IfSome origin (IsTextWithin ORIGIN_LIMIT)) }
-    ensures ascii { IfBad result IsAscii }
+    ensures texts { IfOk result (λ origin. IfSome origin (IsTextWithin origin_limit)) }
+    ensures graphic { IfBad result IsGraphic }
     ensures short { IfBad result (λ path. length path ≤ suc (length (codes "originId"))) }
 {
-    Ok(plain(optional::<Bytes<OriginKind>>(alloc, value, "originId")?))
+    match optional::<OriginId>(alloc, value, "originId")? {
+        Some(origin) => Ok(Some(text_within(origin))),
+        None => Ok(None),
+    }
 }
 
 fn look_at_arguments(alloc: Global, value: &Value) -> Result<(), BadParams>
     ensures read { Reads (under (member_step (codes "arguments"))
         (bad_if_there (bad (list_of text)) (at (codes "arguments") (view value.now)))) tt result }
-    ensures ascii { IfBad result IsAscii }
+    ensures graphic { IfBad result IsGraphic }
     ensures short { IfBad result (λ path. length path
         ≤ suc (length (codes "arguments")) + longest (list_of text)) }
 {
@@ -199,7 +205,7 @@ impl Read for InitializeParams {
         let display_name = required(alloc, value, "displayName")?;
         let version = required(alloc, value, "version")?;
         let bsp_version = required(alloc, value, "bspVersion")?;
-        let root_uri = as_text(required::<Bytes<RootKind>>(alloc, value, "rootUri")?);
+        let root_uri = text_within(required::<RootUri>(alloc, value, "rootUri")?);
         let capabilities = required(alloc, value, "capabilities")?;
         Ok(InitializeParams {
             display_name,

@@ -2,15 +2,15 @@ ghost use Rattle.std.specs.Prelude.{◌≡◌, ◌≤◌, false, length, IfOk};
 ghost use Rattle.serde_json.specs.View.{view};
 ghost use Rattle.serde_json.specs.Written.{compact_text, has_float};
 ghost use Rattle.bsp_records.specs.Diagnostics.{publish_diagnostics_params, publish_diagnostics_params_in, publish_diagnostics_params_data, HasPublishTexts, IsPublishDiagnosticsParams, BadPublishDiagnosticsParams};
-ghost use Rattle.bsp_records.specs.Paths.{IsPlainPath};
-ghost use Rattle.bsp_records.specs.Reading.{ReadBy, IfBad};
+ghost use Rattle.bsp_records.specs.Reading.{IfBad, IsPlainPath, ReadBy};
 ghost use Rattle.bsp_records.specs.Short.{IsShortPublication, publication_limit};
 
 use crate::bad_params::BadParams;
 use crate::diagnostics::DiagnosticRecord;
 use crate::identifiers::{BuildTargetIdentifier, TextDocumentIdentifier};
-use crate::reading::{Read, bad_here, optional, read_params, required};
+use crate::reading::read_params;
 use crate::writing::{Write, put, put_some};
+use json_shape::{Read, bad_here, optional, required};
 use ob_text::{Items, NoMemory, Text};
 use serde_json::{Map, Value};
 use std::alloc::Global;

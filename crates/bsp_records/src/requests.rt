@@ -1,8 +1,7 @@
 ghost use Rattle.std.specs.Prelude.{◌≡◌, IfOk, option_map, unwrap_or};
 ghost use Rattle.serde_json.specs.Data.{null};
 ghost use Rattle.serde_json.specs.View.{view};
-ghost use Rattle.bsp_records.specs.Paths.{IsPlainPath};
-ghost use Rattle.bsp_records.specs.Reading.{IfBad};
+ghost use Rattle.bsp_records.specs.Reading.{IfBad, IsPlainPath};
 ghost use Rattle.bsp_records.specs.Requests.{method_named, name_of, request_in, HasRequestTexts, ReadsAs};
 
 use crate::bad_params::BadParams;

@@ -1,9 +1,13 @@
-//! Tests of the public calls of the crates that read and write the protocol: `rpc_frame` and `rpc_peer`.
-//! They stand above those crates, so that none is proved once more with its tests. There is nothing here
-//! to call.
+//! Tests of the public calls of the crates that read and write the protocol: `rpc_frame`, `rpc_peer`,
+//! `bsp_records`, `task_stream` and `target_graph`. They stand above those crates, so that none is proved once
+//! more with its tests. There is nothing here to call.
 #![tactic(auto)]
 
 #[cfg(test)]
 mod frames;
 #[cfg(test)]
 mod messages;
+#[cfg(test)]
+mod records;
+#[cfg(test)]
+mod streams;

@@ -7,10 +7,10 @@ use Rattle.std.proofs.lemmas.List.{take_min, take-map, drop-map, length-map, len
 use Rattle.std.specs.List.{All}
 use Rattle.std.proofs.lemmas.List.Elements.{All-nil, All-cons, All-append}
 use Rattle.ob_text.specs.declared.diagnostic.Diagnostic.{Diagnostic}
+use Rattle.bsp_records.specs.Short.{diagnostics_limit}
 use Rattle.bsp_records.specs.Shown.{shown}
 use Rattle.bsp_records.specs.declared.publishing.PublishDiagnosticsParams.{PublishDiagnosticsParams}
 use Rattle.task_stream.specs.Pieces.{cut, piece, pieces}
-use Rattle.task_stream.specs.declared.shown.TheConstants.{PIECE_LIMIT}
 use Rattle.task_stream.specs.declared.shown.Address.{Address}
 use Rattle.task_stream.proofs.PieceLaws.{cut_same}
 
@@ -28,17 +28,17 @@ drop_min {A = A} n items = by_test (ltb (length items) n) refl
         ap (λ k. drop k items) least
 
 -- the front of a list, as it is shown
-front_shown : (list front : List Diagnostic) (n : ℕ) → n ≡ min PIECE_LIMIT (length list) → front ≡ take n list → map shown front ≡ take PIECE_LIMIT (map shown list)
+front_shown : (list front : List Diagnostic) (n : ℕ) → n ≡ min diagnostics_limit (length list) → front ≡ take n list → map shown front ≡ take diagnostics_limit (map shown list)
 front_shown list front n least is =
-    ap (map shown) (is ∙ (ap (λ k. take k list) least ∙ take_min PIECE_LIMIT list)) ∙ sym (take-map shown PIECE_LIMIT list)
+    ap (map shown) (is ∙ (ap (λ k. take k list) least ∙ take_min diagnostics_limit list)) ∙ sym (take-map shown diagnostics_limit list)
 
-back_shown : (list back : List Diagnostic) (n : ℕ) → n ≡ min PIECE_LIMIT (length list) → back ≡ drop n list → map shown back ≡ drop PIECE_LIMIT (map shown list)
+back_shown : (list back : List Diagnostic) (n : ℕ) → n ≡ min diagnostics_limit (length list) → back ≡ drop n list → map shown back ≡ drop diagnostics_limit (map shown list)
 back_shown list back n least is =
-    ap (map shown) (is ∙ (ap (λ k. drop k list) least ∙ drop_min PIECE_LIMIT list)) ∙ sym (drop-map shown PIECE_LIMIT list)
+    ap (map shown) (is ∙ (ap (λ k. drop k list) least ∙ drop_min diagnostics_limit list)) ∙ sym (drop-map shown diagnostics_limit list)
 
 -- what is left behind a piece is cut alike, however many pieces there may be
-back_cut : (most : ℕ) (list back : List Diagnostic) (n : ℕ) → length back ≤ most → n ≡ min PIECE_LIMIT (length list) → back ≡ drop n list
-    → cut (length back) (map shown back) ≡ cut most (drop PIECE_LIMIT (map shown list))
+back_cut : (most : ℕ) (list back : List Diagnostic) (n : ℕ) → length back ≤ most → n ≡ min diagnostics_limit (length list) → back ≡ drop n list
+    → cut (length back) (map shown back) ≡ cut most (drop diagnostics_limit (map shown list))
 back_cut most list back n room least is =
     cut_same (length back) most (map shown back) (let l = length-map back shown in omega (arith, l)) (let l = length-map back shown in omega (arith, l))
     ∙ ap (cut most) (back_shown list back n least is)
@@ -46,23 +46,23 @@ back_cut most list back n room least is =
 less : (list back : List Diagnostic) (n : ℕ) → back ≡ drop n list → length back ≤ length list
 less list back n is = let l = length-drop n list in let m : length back ≡ length (drop n list) = ap length is in omega (arith, l, m)
 
-pub first_piece : (address : Address) (origin : Option (List ℕ)) (list front back : List Diagnostic) (n : ℕ) → n ≡ min PIECE_LIMIT (length list) → front ≡ take n list → back ≡ drop n list
+pub first_piece : (address : Address) (origin : Option (List ℕ)) (list front back : List Diagnostic) (n : ℕ) → n ≡ min diagnostics_limit (length list) → front ≡ take n list → back ≡ drop n list
     → piece address origin true (map shown front) ∷ map (piece address origin false) (cut (length back) (map shown back)) ≡ pieces address origin (map shown list)
 first_piece address origin list front back n least at_front at_back =
     let all : length (map shown list) ≡ length list = length-map list shown in
     let small : length back ≤ length (map shown list) = let l = less list back n at_back in omega (arith, l, all) in
     ap (λ records. piece address origin true records ∷ map (piece address origin false) (cut (length back) (map shown back))) (front_shown list front n least at_front)
-    ∙ ap (λ parts. piece address origin true (take PIECE_LIMIT (map shown list)) ∷ map (piece address origin false) parts)
+    ∙ ap (λ parts. piece address origin true (take diagnostics_limit (map shown list)) ∷ map (piece address origin false) parts)
     (back_cut (length (map shown list)) list back n small least at_back)
 
 -- the next piece of what is left
-cut_next : (list front back : List Diagnostic) (n : ℕ) → list ≢ [] → n ≡ min PIECE_LIMIT (length list) → front ≡ take n list → back ≡ drop n list
+cut_next : (list front back : List Diagnostic) (n : ℕ) → list ≢ [] → n ≡ min diagnostics_limit (length list) → front ≡ take n list → back ≡ drop n list
     → map shown front ∷ cut (length back) (map shown back) ≡ cut (length list) (map shown list)
 cut_next [] front back n some least at_front at_back = absurd (some refl)
 cut_next (x ∷ list) front back n some least at_front at_back =
     let small : length back ≤ length list = shorter in
     ap (λ records. records ∷ cut (length back) (map shown back)) (front_shown (x ∷ list) front n least at_front)
-    ∙ ap (λ parts. take PIECE_LIMIT (map shown (x ∷ list)) ∷ parts) (back_cut (length list) (x ∷ list) back n small least at_back)
+    ∙ ap (λ parts. take diagnostics_limit (map shown (x ∷ list)) ∷ parts) (back_cut (length list) (x ∷ list) back n small least at_back)
   where
     shorter : length back ≤ length list
     shorter =
@@ -71,7 +71,7 @@ cut_next (x ∷ list) front back n some least at_front at_back =
         omega (arith, l, m, least)
 
 pub next_piece : (address : Address) (origin : Option (List ℕ)) (before : List PublishDiagnosticsParams) (list front back : List Diagnostic) (n : ℕ) → list ≢ []
-    → n ≡ min PIECE_LIMIT (length list) → front ≡ take n list → back ≡ drop n list
+    → n ≡ min diagnostics_limit (length list) → front ≡ take n list → back ≡ drop n list
     → (before ++ piece address origin false (map shown front) ∷ []) ++ map (piece address origin false) (cut (length back) (map shown back))
     ≡ before ++ map (piece address origin false) (cut (length list) (map shown list))
 next_piece address origin before list front back n some least at_front at_back =

@@ -7,14 +7,14 @@ use Rattle.std.specs.Prelude.{⊤, ◌&&◌, if◌then◌else◌}
 use Rattle.std.specs.List.{All}
 use Rattle.std.specs.Option.{IfSome}
 use Rattle.std.specs.Str.{bytes_eq}
-use Rattle.bsp_records.specs.Short.{IsShortAddress, IsShortPublication, IsShortRecord, IsWithin}
+use Rattle.ob_text.specs.Ascii.{IsWithin}
+use Rattle.bsp_records.specs.Limits.{origin_limit}
+use Rattle.bsp_records.specs.Short.{diagnostics_limit, IsShortAddress, IsShortPublication, IsShortRecord}
 use Rattle.bsp_records.specs.Table.{Table, published, table_with}
 use Rattle.bsp_records.specs.declared.diagnostics.DiagnosticRecord.{DiagnosticRecord}
-use Rattle.bsp_records.specs.declared.kinds.TheConstants.{ORIGIN_LIMIT}
 use Rattle.bsp_records.specs.declared.publishing.PublishDiagnosticsParams.{PublishDiagnosticsParams}
 use Rattle.task_stream.specs.Pieces.{cut, later_pieces, piece, pieces, IsPiece}
 use Rattle.task_stream.specs.Showing.{is_at, shows, MakeShow}
-use Rattle.task_stream.specs.declared.shown.TheConstants.{PIECE_LIMIT}
 use Rattle.task_stream.specs.declared.shown.Address.{Address}
 use Rattle.task_stream.specs.declared.shown.Shown.{Shown}
 
@@ -32,7 +32,7 @@ cut_joined zero [] h = refl
 cut_joined zero (x ∷ xs) h = absurd (omega arith)
 cut_joined (suc most) [] h = refl
 cut_joined (suc most) (x ∷ xs) h =
-    ap (λ rest. take PIECE_LIMIT (x ∷ xs) ++ rest) (cut_joined most (drop PIECE_LIMIT (x ∷ xs)) (length_drop_less most 99 x xs h)) ∙ take-append-drop PIECE_LIMIT (x ∷ xs)
+    ap (λ rest. take diagnostics_limit (x ∷ xs) ++ rest) (cut_joined most (drop diagnostics_limit (x ∷ xs)) (length_drop_less most 99 x xs h)) ∙ take-append-drop diagnostics_limit (x ∷ xs)
 
 cut_nil : {A : Type 0} (most : ℕ) → cut {A = A} most [] ≡ []
 cut_nil zero = refl
@@ -44,12 +44,12 @@ cut_same m n [] h k = cut_nil m ∙ sym (cut_nil n)
 cut_same zero n (x ∷ xs) h k = absurd (omega arith)
 cut_same (suc m) zero (x ∷ xs) h k = absurd (omega arith)
 cut_same (suc m) (suc n) (x ∷ xs) h k =
-    ap (λ rest. take PIECE_LIMIT (x ∷ xs) ∷ rest) (cut_same m n (drop PIECE_LIMIT (x ∷ xs)) (length_drop_less m 99 x xs h) (length_drop_less n 99 x xs k))
+    ap (λ rest. take diagnostics_limit (x ∷ xs) ∷ rest) (cut_same m n (drop diagnostics_limit (x ∷ xs)) (length_drop_less m 99 x xs h) (length_drop_less n 99 x xs k))
 
-whole_joined : {A : Type 0} (items : List A) → take PIECE_LIMIT items ++ joined (later_pieces items) ≡ items
+whole_joined : {A : Type 0} (items : List A) → take diagnostics_limit items ++ joined (later_pieces items) ≡ items
 whole_joined items =
-    let less : length (drop PIECE_LIMIT items) ≤ length items = let l = length-drop PIECE_LIMIT items in omega (arith, l) in
-    ap (λ rest. take PIECE_LIMIT items ++ rest) (cut_joined (length items) (drop PIECE_LIMIT items) less) ∙ take-append-drop PIECE_LIMIT items
+    let less : length (drop diagnostics_limit items) ≤ length items = let l = length-drop diagnostics_limit items in omega (arith, l) in
+    ap (λ rest. take diagnostics_limit items ++ rest) (cut_joined (length items) (drop diagnostics_limit items) less) ∙ take-append-drop diagnostics_limit items
 
 -- ---- what a client shows then
 
@@ -73,14 +73,14 @@ module _ (address : Address) (origin : Option (List ℕ)) (document target : Lis
   -- the pieces of a list make it the one that is shown at their address
   pieces_show : is_at address document target ≡ true → (records : List DiagnosticRecord) (table : Table) → table_with (pieces address origin records) table document target ≡ records
   pieces_show here records table =
-      let first = take PIECE_LIMIT records in
+      let first = take diagnostics_limit records in
       let begun : published (piece address origin true first) table document target ≡ first = rw here refl in
       added here (later_pieces records) (published (piece address origin true first) table) ∙ (ap (λ list. list ++ joined (later_pieces records)) begun ∙ whole_joined records)
 
   pieces_keep : is_at address document target ≡ false → (records : List DiagnosticRecord) (table : Table) → table_with (pieces address origin records) table document target ≡ table document target
   pieces_keep there records table =
-      let first : published (piece address origin true (take PIECE_LIMIT records)) table document target ≡ table document target = rw there refl in
-      kept there false (later_pieces records) (published (piece address origin true (take PIECE_LIMIT records)) table) ∙ first
+      let first : published (piece address origin true (take diagnostics_limit records)) table document target ≡ table document target = rw there refl in
+      kept there false (later_pieces records) (published (piece address origin true (take diagnostics_limit records)) table) ∙ first
 
 -- so the pieces make a client show the list
 pub pieces_make : (ps : List PublishDiagnosticsParams) (old : Shown) (address : Address) (records : List DiagnosticRecord) (origin : Option (List ℕ))
@@ -117,22 +117,22 @@ none_make ps old address records is shown table agrees document target =
 -- ---- what holds of each piece
 
 module _ (P : DiagnosticRecord → Type 0) (Q : PublishDiagnosticsParams → Type 0) (address : Address) (origin : Option (List ℕ))
-    (each : (reset : Bool) (part : List DiagnosticRecord) → length part ≤ PIECE_LIMIT → All P part → Q (piece address origin reset part)) where
-  one : (reset : Bool) (records : List DiagnosticRecord) → All P records → Q (piece address origin reset (take PIECE_LIMIT records))
+    (each : (reset : Bool) (part : List DiagnosticRecord) → length part ≤ diagnostics_limit → All P part → Q (piece address origin reset part)) where
+  one : (reset : Bool) (records : List DiagnosticRecord) → All P records → Q (piece address origin reset (take diagnostics_limit records))
   one reset records all =
-      each reset (take PIECE_LIMIT records) (let l = length-take PIECE_LIMIT records in omega (arith, l)) (All-take P PIECE_LIMIT records all)
+      each reset (take diagnostics_limit records) (let l = length-take diagnostics_limit records in omega (arith, l)) (All-take P diagnostics_limit records all)
 
   later : (most : ℕ) (records : List DiagnosticRecord) → All P records → All Q (map (piece address origin false) (cut most records))
   later zero records all = All-nil Q
   later (suc most) [] all = All-nil Q
   later (suc most) (x ∷ xs) all =
-      All-cons Q (piece address origin false (take PIECE_LIMIT (x ∷ xs))) (map (piece address origin false) (cut most (drop PIECE_LIMIT (x ∷ xs)))) (one false (x ∷ xs) all)
-      (later most (drop PIECE_LIMIT (x ∷ xs)) (All-drop P PIECE_LIMIT (x ∷ xs) all))
+      All-cons Q (piece address origin false (take diagnostics_limit (x ∷ xs))) (map (piece address origin false) (cut most (drop diagnostics_limit (x ∷ xs)))) (one false (x ∷ xs) all)
+      (later most (drop diagnostics_limit (x ∷ xs)) (All-drop P diagnostics_limit (x ∷ xs) all))
 
   all_pieces : (records : List DiagnosticRecord) → All P records → All Q (pieces address origin records)
   all_pieces records all =
-      All-cons Q (piece address origin true (take PIECE_LIMIT records)) (map (piece address origin false) (later_pieces records)) (one true records all)
-      (later (length records) (drop PIECE_LIMIT records) (All-drop P PIECE_LIMIT records all))
+      All-cons Q (piece address origin true (take diagnostics_limit records)) (map (piece address origin false) (later_pieces records)) (one true records all)
+      (later (length records) (drop diagnostics_limit records) (All-drop P diagnostics_limit records all))
 
 pub pieces_few : (ps : List PublishDiagnosticsParams) (address : Address) (origin : Option (List ℕ)) (records : List DiagnosticRecord)
     → ps ≡ pieces address origin records → All IsPiece ps
@@ -140,7 +140,7 @@ pieces_few ps address origin records is =
     subst (All IsPiece) (sym is) (all_pieces (λ _. ⊤) IsPiece address origin (λ reset part few all. few) records (λ k d h. tt))
 
 pub pieces_short : (ps : List PublishDiagnosticsParams) (address : Address) (origin : Option (List ℕ)) (records : List DiagnosticRecord)
-    → ps ≡ pieces address origin records → All IsShortRecord records → IsShortAddress address.document → IsShortAddress address.target → IfSome origin (IsWithin ORIGIN_LIMIT)
+    → ps ≡ pieces address origin records → All IsShortRecord records → IsShortAddress address.document → IsShortAddress address.target → IfSome origin (IsWithin origin_limit)
     → All IsShortPublication ps
 pieces_short ps address origin records is all document target within =
     subst (All IsShortPublication) (sym is)

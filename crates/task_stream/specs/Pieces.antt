@@ -1,9 +1,9 @@
 -- A list of diagnostics as its publications (Build Server Protocol 2.2, build/publishDiagnostics).
 use Rattle.std.specs.Prelude.{ℕ, ◌≤◌, zero, suc, List, [], ◌∷◌, length, map, take, drop, Bool, true, false, Option}
+use Rattle.bsp_records.specs.Short.{diagnostics_limit}
 use Rattle.bsp_records.specs.declared.diagnostics.DiagnosticRecord.{DiagnosticRecord}
 use Rattle.bsp_records.specs.declared.publishing.PublishDiagnosticsParams.{PublishDiagnosticsParams}
 use Rattle.task_stream.specs.declared.shown.Address.{Address}
-use Rattle.task_stream.specs.declared.shown.TheConstants.{PIECE_LIMIT}
 
 -- one publication
 abbrev pub piece : Address → Option (List ℕ) → Bool → List DiagnosticRecord → PublishDiagnosticsParams
@@ -21,17 +21,17 @@ piece address origin reset records =
 abbrev pub cut : {A : Type 0} → ℕ → List A → List (List A)
 cut zero items = []
 cut (suc most) [] = []
-cut (suc most) (x ∷ xs) = take PIECE_LIMIT (x ∷ xs) ∷ cut most (drop PIECE_LIMIT (x ∷ xs))
+cut (suc most) (x ∷ xs) = take diagnostics_limit (x ∷ xs) ∷ cut most (drop diagnostics_limit (x ∷ xs))
 
 -- the pieces behind the first
 abbrev pub later_pieces : {A : Type 0} → List A → List (List A)
-later_pieces items = cut (length items) (drop PIECE_LIMIT items)
+later_pieces items = cut (length items) (drop diagnostics_limit items)
 
 -- a whole list in pieces, the first of which resets
 abbrev pub pieces : Address → Option (List ℕ) → List DiagnosticRecord → List PublishDiagnosticsParams
 pieces address origin records =
-    piece address origin true (take PIECE_LIMIT records) ∷ map (piece address origin false) (later_pieces records)
+    piece address origin true (take diagnostics_limit records) ∷ map (piece address origin false) (later_pieces records)
 
 -- a publication of at most so many diagnostics as one piece has
 abbrev pub IsPiece : PublishDiagnosticsParams → Type 0
-IsPiece p = length p.diagnostics ≤ PIECE_LIMIT
+IsPiece p = length p.diagnostics ≤ diagnostics_limit

@@ -1,10 +1,10 @@
-//! What a client shows of each document, and the messages that change it.
+//! What a client shows of each document and target, and the publications that change it.
+//!
+//! It stands on `bsp_records`, whose `specs/Table.antt` says what a client shows, and on `ob_text`. It knows the
+//! client's table, and nothing of a session. Begin with `specs/Pieces.antt`, then `Shown::publish` in `shown.rt`.
 #![tactic(auto)]
 
 mod same;
 mod shown;
 
-pub use shown::{Address, PIECE_LIMIT, Shown};
-
-#[cfg(test)]
-mod tests;
+pub use shown::{Address, Shown};

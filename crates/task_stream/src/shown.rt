@@ -2,22 +2,24 @@ ghost use Rattle.std.specs.Prelude.{◌≡◌, ◌≢◌, ◌↔◌, ◌++◌, �
 ghost use Rattle.std.specs.List.{All};
 ghost use Rattle.std.specs.Str.{IsUtf8};
 ghost use Rattle.bsp_records.specs.Diagnostics.{HasPublishTexts};
-ghost use Rattle.bsp_records.specs.Short.{IsShortAddress, IsShortPublication, IsWithin};
+ghost use Rattle.ob_text.specs.Ascii.{IsWithin};
+ghost use Rattle.bsp_records.specs.Limits.{origin_limit};
+ghost use Rattle.bsp_records.specs.Short.{IsShortAddress, IsShortPublication};
 ghost use Rattle.bsp_records.specs.Shown.{shown, HasPlainName};
 ghost use Rattle.task_stream.specs.Pieces.{pieces, later_pieces, piece, IsPiece};
 ghost use Rattle.task_stream.specs.Showing.{address_of, shows, MakeShow, ShowsNow};
 
 use crate::same::same_record;
 use bsp_records::{
-    BuildTargetIdentifier, DiagnosticRecord, ORIGIN_LIMIT, PublishDiagnosticsParams,
-    TextDocumentIdentifier, show_all,
+    BuildTargetIdentifier, DiagnosticRecord, PublishDiagnosticsParams, TextDocumentIdentifier,
+    show_all,
 };
 use indexmap::IndexMap;
 use ob_text::{Diagnostic, Items, NoMemory, Text};
 use std::alloc::Global;
 
 /// The most diagnostics of one publication.
-pub const PIECE_LIMIT: usize = 100;
+const PIECE_LIMIT: usize = 100;
 
 /// The address of a document, and the id of a target that has it. A client shows diagnostics for both
 /// together (Build Server Protocol 2.2, build/publishDiagnostics).
@@ -58,7 +60,7 @@ impl Shown {
     }
 
     /// The publications that make a client show this list by the reset rule, none where it shows it
-    /// already. The list is in pieces of `PIECE_LIMIT`, of which the first resets.
+    /// already. The list is in pieces of 100 diagnostics and a last one, of which the first resets.
     #[tactic(auto, using(crate::proofs::PieceLaws::none_make))]
     pub fn publish(
         &mut self,
@@ -82,7 +84,7 @@ impl Shown {
         ensures texts { IfOk result (λ ps. All HasPublishTexts ps.items) }
         ensures few { IfOk result (λ ps. All IsPiece ps.items) }
         ensures short { IsShortAddress address.now.document → IsShortAddress address.now.target
-            → IfSome origin.now (IsWithin ORIGIN_LIMIT)
+            → IfSome origin.now (IsWithin origin_limit)
             → IfOk result (λ ps. All IsShortPublication ps.items) }
         ensures err { OnErr result ((document target : List ℕ)
             → shows self.new document target ≡ shows self.old document target) }

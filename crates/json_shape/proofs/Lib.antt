@@ -1,0 +1,4 @@
+pub mod ListLaws
+pub mod PathLaws
+pub mod TextLaws
+pub mod NoneLaws
