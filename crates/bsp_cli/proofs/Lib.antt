@@ -1,3 +1,5 @@
+pub mod CourseLaws
+pub mod EndLaws
 pub mod EventLaws
 pub mod ProgressLaws
 pub mod RunLaws

@@ -1,5 +1,6 @@
 -- How a session comes further.
 use Rattle.std.proofs.Common.{◌≡◌, ◌+◌, ◌++◌, ℕ, List, [], ◌∷◌, length, Option, refl, sym, ap, ◌∙◌, subst, arith, append-nil, length-append}
+use Rattle.bsp_edge.specs.Streams.{Takes}
 use Rattle.bsp_edge.proofs.StreamLaws.{takes_append}
 use Rattle.rpc_frame.specs.Frames.{BeginsWith, HasNoFrame, IsBorder, FramesTo, IsSound, Waiting}
 use Rattle.rpc_frame.specs.declared.damage.Damage.{Damage}
@@ -10,7 +11,7 @@ use Rattle.rpc_frame.proofs.FrameLaws.{FramesTo-append, frames_more, sound_behin
 use Rattle.session_law.specs.Order.{Event, takes_of}
 use Rattle.session_core.specs.declared.session.Core.{Core}
 use Rattle.session_core.proofs.StandingLaws.{stood_lawful}
-use Rattle.bsp_cli.specs.Progress.{Progress, Stopped, Feeds, Loses, fed}
+use Rattle.bsp_cli.specs.Progress.{Progress, Stopped, fed}
 use Rattle.bsp_cli.specs.Outside.{Told}
 use Rattle.bsp_cli.specs.Writing.{Steps, Stops}
 use Rattle.bsp_cli.proofs.EventLaws.{takes_of-append, end_of-append, tells_append}
@@ -101,39 +102,38 @@ border_empty [] none border = refl
 border_empty (b ∷ bytes) none border = absurd (rest_no_border (b ∷ bytes) [] (b ∷ bytes) refl none (omega arith) border)
 
 -- a piece was read, which the decoder has
-pub progress_feeds : (core : Core) (old new : Waiting) (left0 left more : Option (List ℕ)) (start now : Told) → Progress core old left0 left start now → Feeds old new left more
-    → Progress core new left0 more start now
-progress_feeds core old new left0 left more start now so feeds =
-    rw feeds.stream (record {
+pub progress_feeds : (c d : Core) (old new : Waiting) (piece : List ℕ) (left0 left more : Option (List ℕ)) (start now : Told) → d ≡ c → new ≡ record old { bytes = old.bytes ++ piece } → Takes left more piece
+    → Progress c old left0 left start now → Progress d new left0 more start now
+progress_feeds c d old new piece left0 left more start now same stream taken so =
+    rw (same, stream) (record {
       order = so.order;
       stands = so.stands;
       unended = so.unended;
-      read = so.read ++ feeds.piece;
-      consumed = takes_append left0 left more so.read feeds.piece so.consumed feeds.taken;
-      frames = frames_more so.read (takes_of so.order) old.bytes feeds.piece so.frames;
-      count = omega (arith, so.count, length-append so.read feeds.piece, length-append old.bytes feeds.piece);
+      read = so.read ++ piece;
+      consumed = takes_append left0 left more so.read piece so.consumed taken;
+      frames = frames_more so.read (takes_of so.order) old.bytes piece so.frames;
+      count = omega (arith, so.count, length-append so.read piece, length-append old.bytes piece);
       tells = so.tells;
     })
 
 -- a piece was read, which the decoder found no memory for
-pub stopped_feeding : (core : Core) (old new : Waiting) (left0 left more : Option (List ℕ)) (start now : Told) → Progress core old left0 left start now → Loses old new left more
+pub stopped_feeding : (core : Core) (old new : Waiting) (piece : List ℕ) (left0 left more : Option (List ℕ)) (start now : Told) → new ≡ old → Takes left more piece → Progress core old left0 left start now
     → Stopped new.given_end left0 more start now
-stopped_feeding core old new left0 left more start now so loses =
-    rw loses.stream (record {
+stopped_feeding core old new piece left0 left more start now same taken so =
+    rw same (record {
       order = so.order;
       lawful = stood_lawful core so.order so.stands;
       unended = so.unended;
-      read = so.read ++ loses.piece;
-      consumed = takes_append left0 left more so.read loses.piece so.consumed loses.taken;
-      waiting = old.bytes ++ loses.piece;
-      frames = frames_more so.read (takes_of so.order) old.bytes loses.piece so.frames;
-      count = omega (arith, so.count, length-append so.read loses.piece, length-append old.bytes loses.piece);
+      read = so.read ++ piece;
+      consumed = takes_append left0 left more so.read piece so.consumed taken;
+      waiting = old.bytes ++ piece;
+      frames = frames_more so.read (takes_of so.order) old.bytes piece so.frames;
+      count = omega (arith, so.count, length-append so.read piece, length-append old.bytes piece);
       tail = [];
       tells = so.tells;
       cut = λ some. absurd (some refl);
     })
 
 -- nothing was read
-pub progress_same : (core : Core) (old new : Waiting) (left0 left more : Option (List ℕ)) (start now : Told) → Progress core old left0 left start now → new ≡ old → more ≡ left
-    → Progress core new left0 more start now
-progress_same core old new left0 left more start now so same_stream same_left = rw (same_stream, same_left) so
+pub progress_same : (core : Core) (stream : Waiting) (left0 left more : Option (List ℕ)) (start now : Told) → Progress core stream left0 left start now → more ≡ left → Progress core stream left0 more start now
+progress_same core stream left0 left more start now so same = rw same so

@@ -1,5 +1,8 @@
 -- How a session ends.
-use Rattle.std.proofs.Common.{◌≡◌, inl, inr, ◌+◌, ◌++◌, ◌≤◌, ℕ, List, [], ◌∷◌, length, take, Option, Some, None, IfSome, refl, sym, ap, ◌∙◌, subst, lit≤, arith, append-nil, length-append}
+use Rattle.std.proofs.Common.{◌≡◌, inl, inr, ◌+◌, ◌++◌, ◌≤◌, ◌==◌, ℕ, Bool, true, false, List, [], ◌∷◌, length, take, Option, Some, None, IfSome, refl, sym, ap, ◌∙◌, subst, lit≤, arith, append-nil, length-append}
+use Rattle.std.proofs.lemmas.Bool.Decides.{nat_tests}
+use Rattle.bsp_edge.specs.Course.{Course}
+use Rattle.bsp_edge.specs.Faults.{Rose}
 use Rattle.bsp_edge.specs.Streams.{Gives}
 use Rattle.rpc_frame.specs.Frames.{HasNoFrame, FramesTo, Frames, Waiting}
 use Rattle.rpc_frame.specs.declared.damage.Damage.{Damage}
@@ -11,18 +14,24 @@ use Rattle.session_law.specs.declared.InputEnd.TheVariants as input_end
 use Rattle.session_law.specs.AnswersAll.{IsSettled}
 use Rattle.session_law.specs.Order.{Event, ends, takes_of}
 use Rattle.session_law.specs.Past.{end_status}
+use Rattle.bsp_cli.proofs.EndLaws.{exit_within}
 use Rattle.rpc_peer.specs.Said.{Said}
 use Rattle.session_core.specs.Standing.{StandsFor, Knows, onto, IsQuiet, IsAlive}
 use Rattle.session_core.specs.State.{state_of}
 use Rattle.session_core.specs.declared.session.Core.{Core}
 use Rattle.session_core.proofs.StandingLaws.{none_open, stood_lawful, known, settled, takes_of-onto, end_of-onto, status_after-onto, status_within}
 use Rattle.bsp_cli.specs.Progress.{Progress, Stopped, EndsBy, IsOut, Finishes, ended, halted, HasEnded, IsReady, fed}
-use Rattle.bsp_cli.specs.Session.{Change, TreeChange, EndsFor, HasNoMore, IsDamage, Session}
+use Rattle.bsp_cli.specs.Session.{Change, InputChange, TreeChange, EndsFor, HasNoMore, IsDamage, Session, changed, input_changed, tree_changed}
+use Rattle.bsp_cli.specs.Places.{EndsInLast, WhereTold}
+use Rattle.bsp_cli.specs.Served.{Serves}
 use Rattle.bsp_cli.specs.Outside.{Told, told}
-use Rattle.bsp_cli.specs.Writing.{Acts, HaltsAt, status_of_stop}
-use Rattle.bsp_cli.specs.Endings.{how_of, damage_of}
-use Rattle.bsp_cli.specs.declared.serve.Ending.{Ending}
-use Rattle.bsp_cli.specs.declared.serve.Ending.TheVariants.{Border, Damaged, Failed}
+use Rattle.bsp_cli.specs.Writing.{Acts, HaltsAt}
+use Rattle.bsp_cli.specs.Outcomes.{how_of, status_by}
+use Rattle.bsp_cli.specs.declared.outcome.Ending.{Ending}
+use Rattle.bsp_cli.specs.declared.outcome.Ending.TheVariants.{Border, Damaged, Failed}
+use Rattle.bsp_cli.specs.declared.outcome.Outcome.{Outcome}
+use Rattle.bsp_cli.specs.declared.outcome.Outcome.TheVariants.{Exited, InputEnded}
+use Rattle.bsp_cli.specs.declared.outcome.Outcome.TheVariants as ended_by
 use Rattle.bsp_cli.specs.declared.stop.Stop.{Stop}
 use Rattle.bsp_cli.specs.declared.stop.Stop.TheVariants.{Sink, NoMemory}
 use Rattle.bsp_edge.proofs.StreamLaws.{takes_nothing}
@@ -54,30 +63,95 @@ status_small input_end.Border = lit≤ tt
 status_small input_end.Damaged = lit≤ tt
 status_small input_end.Failed = lit≤ tt
 
+-- the status of an exit
+pub exit_is : (closed : Bool) (status : ℕ) → closed ≡ (status == 0) → status ≤ 1 → status_by (Exited closed) ≡ status
+exit_is true status same low = grind (arith, nat_tests)
+exit_is false status same low = grind (arith, nat_tests)
+
+-- the status of an end of the input
+ended_is : (ending : Ending) → status_by (InputEnded ending) ≡ end_status (how_of ending)
+ended_is Border = refl
+ended_is (Damaged damage) = refl
+ended_is Failed = refl
+
+ended_low : (ending : Ending) → status_by (InputEnded ending) ≤ 3
+ended_low Border = lit≤ tt
+ended_low (Damaged damage) = lit≤ tt
+ended_low Failed = lit≤ tt
+
+stopped_high : (stop : Stop) → 4 ≤ status_by (ended_by.Stopped stop)
+stopped_high Sink = lit≤ tt
+stopped_high NoMemory = lit≤ tt
+
+stopped_within : (stop : Stop) → status_by (ended_by.Stopped stop) ≤ 5
+stopped_within Sink = lit≤ tt
+stopped_within NoMemory = lit≤ tt
+
+-- the damage of an end
+abbrev pub damage_of : Ending → Option Damage
+damage_of Border = None
+damage_of (Damaged damage) = Some damage
+damage_of Failed = None
+
+told_damage : (ending : Ending) (found : Damage) → InputEnded ending ≡ InputEnded (Damaged found) → damage_of ending ≡ Some found
+told_damage Border found same = absurd (cc)
+told_damage (Damaged damage) found same = cc
+told_damage Failed found same = absurd (cc)
+
+-- where the input was found to have ended, the session took no exit
+some_end : {how : InputEnd} {end : Option InputEnd} → end ≡ Some how → end ≡ None → ⊥
+some_end found none = cc
+
+stopped_sink : (stop : Stop) (f g : ℕ) → (stop ≡ Sink → Rose f g) → status_by (ended_by.Stopped stop) ≡ 4 → Rose f g
+stopped_sink Sink f g rose four = rose refl
+stopped_sink NoMemory f g rose four = absurd (omega arith)
+
+-- ---- why the input ended
+
+has_more : (stream : Waiting) (input : InputChange) (read : List ℕ) → length read ≡ fed stream → IsOut stream input.new → HasNoMore input read
+has_more stream input read count (inl dry) = inl dry
+has_more stream input read count (inr limit) = inr (count ∙ limit)
+
+-- the damage of the bytes that wait is that of all bytes read
+read_damage : (read : List ℕ) (bodies : List (List ℕ)) (rest : List ℕ) (given_end place : ℕ) (damage : Damage) → FramesTo read bodies rest → length read ≡ given_end + length rest
+    → damage.place ≡ given_end + place → DamageAt rest place damage.kind → DamageAt read damage.place damage.kind
+read_damage read bodies rest given_end place damage frames count counted at =
+    let parts = frames_apart read bodies rest frames in
+    let there : DamageAt (parts.front ++ rest) (length parts.front + place) damage.kind = damage_behind parts.front bodies rest place damage.kind parts.frames at in
+    let same : damage.place ≡ length parts.front + place = omega (arith, counted, count, ap length parts.whole, length-append parts.front rest) in
+    rw (parts.whole, same) there
+
+is_damage : (damage : Damage) (stream : Waiting) (input : InputChange) (read : List ℕ) (bodies : List (List ℕ)) → FramesTo read bodies stream.bytes → length read ≡ fed stream
+    → EndsBy (Damaged damage) stream input.new input.faults_old input.faults_new → IsDamage (Some damage) input read stream.bytes
+is_damage damage stream input read bodies frames count (inl has) =
+    inl (read_damage read bodies stream.bytes stream.given_end has.place damage frames count has.counted has.at)
+is_damage damage stream input read bodies frames count (inr inside) =
+    inr (record { sound = sound_front read bodies stream.bytes frames inside.sound; kind = inside.kind; place = inside.place ∙ sym count; inside = inside.inside; no_more = has_more stream input read count inside.out })
+
+ends_for : (ending : Ending) (stream : Waiting) (input : InputChange) (read : List ℕ) (bodies : List (List ℕ)) → FramesTo read bodies stream.bytes → length read ≡ fed stream
+    → EndsBy ending stream input.new input.faults_old input.faults_new → EndsFor (Some (how_of ending)) (damage_of ending) input read stream.bytes
+ends_for Border stream input read bodies frames count cause = (cause.0, has_more stream input read count cause.1)
+ends_for (Damaged damage) stream input read bodies frames count cause = is_damage damage stream input read bodies frames count cause
+ends_for Failed stream input read bodies frames count cause =
+    (λ broken. broken_not_sound stream.bytes (broken_rest read bodies stream.bytes frames broken) cause.0, cause.1)
+
 -- ---- the three ways
 
-abbrev input_change : Option (List ℕ) → Option (List ℕ) → ℕ → ℕ → Change
-input_change left0 left faults_old faults_new = record { old = left0; new = left; faults_old = faults_old; faults_new = faults_new }
+-- a tree and an output between two moments
+abbrev files : Told → Told → TreeChange
+files start now = tree_changed start.handed now.handed start.faults now.faults
 
-abbrev tree_change : Told → Told → TreeChange
-tree_change start now = record { old = start.handed; new = now.handed; faults_old = start.faults; faults_new = now.faults }
+abbrev written : Told → Told → ℕ → ℕ → Change
+written start now faults_old faults_new = changed start.given now.given faults_old faults_new
 
-abbrev output_change : Told → Told → ℕ → ℕ → Change
-output_change start now faults_old faults_new = record { old = start.given; new = now.given; faults_old = faults_old; faults_new = faults_new }
+module _ (left0 left : Option (List ℕ)) (course0 course : Option Course) (start now : Told) (in_old in_new out_old out_new : ℕ) where
+  abbrev input : InputChange
+  input = input_changed left0 left course0 course in_old in_new
 
-module _ (left0 left : Option (List ℕ)) (start now : Told) (in_old in_new out_old out_new : ℕ) where
-  -- the status of a session that took an exit
-  pub exits_low : (core : Core) (stream : Waiting) (status : ℕ) → Progress core stream left0 left start now → HasEnded core (Some status) → status ≤ 3
-  exits_low core stream status so end =
-      subst (λ s. IfSome s (λ n. n ≤ 3)) ((known core so.order end.quiet end.alive so.stands).status_is ∙ end.status_is) (status_within so.order)
-
-  -- the session took an exit
-  pub session_exits : (core : Core) (stream : Waiting) (status : ℕ) → Progress core stream left0 left start now → HasEnded core (Some status)
-      → Session (input_change left0 left in_old in_new) (tree_change start now) (output_change start now out_old out_new) status stream.given_end None
-  session_exits core stream status so end =
+  session_exits : (core : Core) (stream : Waiting) (status : ℕ) → status ≤ 3 → Progress core stream left0 left start now → HasEnded core (Some status)
+      → WhereTold (EndsInLast stream.given_end) course0 course → Session input (files start now) (written start now out_old out_new) status stream.given_end None
+  session_exits core stream status low so end last =
       let knows = known core so.order end.quiet end.alive so.stands in
-      let status_is = knows.status_is ∙ end.status_is in
-      let small : status ≤ 3 = subst (λ s. IfSome s (λ n. n ≤ 3)) status_is (status_within so.order) in
       record {
         order = so.order;
         lawful = stood_lawful core so.order so.stands;
@@ -88,6 +162,7 @@ module _ (left0 left : Option (List ℕ)) (start now : Told) (in_old in_new out_
         frames = taken_frames so.read (takes_of so.order) stream.bytes stream.given_end so.frames so.count;
         counts = rw so.unended refl;
         ends_for = rw so.unended tt;
+        in_last = λ _ _. last;
         hands = so.tells.hands;
         failures = so.tells.failures;
         tail = [];
@@ -95,13 +170,26 @@ module _ (left0 left : Option (List ℕ)) (start now : Told) (in_old in_new out_
         cut = λ some. absurd (some refl);
         whole = λ _. refl;
         settled = λ _. settled core so.order end.free knows;
-        agrees = λ _. status_is;
+        agrees = λ _. knows.status_is ∙ end.status_is;
         no_other = omega arith;
       }
 
-  stopped : (given_end status : ℕ) → 4 ≤ status → status ≤ 5 → Stopped given_end left0 left start now
-      → Session (input_change left0 left in_old in_new) (tree_change start now) (output_change start now out_old out_new) status given_end None
-  stopped given_end status low high so =
+  -- the session took an exit
+  pub serves_exit : (core : Core) (stream : Waiting) (status : ℕ) (closed : Bool) → closed ≡ (status == 0) → Progress core stream left0 left start now → HasEnded core (Some status)
+      → WhereTold (EndsInLast stream.given_end) course0 course → Serves input (files start now) (written start now out_old out_new) (Exited closed) stream.given_end
+  serves_exit core stream status closed is_closed so end last =
+      let knows = known core so.order end.quiet end.alive so.stands in
+      let low : status ≤ 1 = subst (λ found. IfSome found (λ n. n ≤ 1)) (knows.status_is ∙ end.status_is) (exit_within so.order so.unended) in
+      let same : status_by (Exited closed) ≡ status = exit_is closed status is_closed low in
+      record {
+        damage = None;
+        session = rw same (session_exits core stream status (omega arith) so end last);
+        told = λ found other. absurd (cc);
+        sink = λ four. absurd (omega (arith, same));
+      }
+
+  session_stops : (given_end status : ℕ) → 4 ≤ status → status ≤ 5 → Stopped given_end left0 left start now → Session input (files start now) (written start now out_old out_new) status given_end None
+  session_stops given_end status low high so =
       record {
         order = so.order;
         lawful = so.lawful;
@@ -112,6 +200,7 @@ module _ (left0 left : Option (List ℕ)) (start now : Told) (in_old in_new out_
         frames = taken_frames so.read (takes_of so.order) so.waiting given_end so.frames so.count;
         counts = rw so.unended refl;
         ends_for = rw so.unended tt;
+        in_last = λ small. absurd (omega arith);
         hands = so.tells.hands;
         failures = so.tells.failures;
         tail = so.tail;
@@ -124,38 +213,46 @@ module _ (left0 left : Option (List ℕ)) (start now : Told) (in_old in_new out_
       }
 
   -- the session had to stop before an end of its input
-  pub session_stops : (given_end : ℕ) (stop : Stop) → Stopped given_end left0 left start now
-      → Session (input_change left0 left in_old in_new) (tree_change start now) (output_change start now out_old out_new) (status_of_stop stop) given_end None
-  session_stops given_end Sink so = stopped given_end 4 (lit≤ tt) (lit≤ tt) so
-  session_stops given_end NoMemory so = stopped given_end 5 (lit≤ tt) (lit≤ tt) so
+  pub serves_stop : (given_end : ℕ) (stop : Stop) → (stop ≡ Sink → Rose out_old out_new) → Stopped given_end left0 left start now
+      → Serves input (files start now) (written start now out_old out_new) (ended_by.Stopped stop) given_end
+  serves_stop given_end stop rose so =
+      record {
+        damage = None;
+        session = session_stops given_end (status_by (ended_by.Stopped stop)) (stopped_high stop) (stopped_within stop) so;
+        told = λ found other. absurd (cc);
+        sink = stopped_sink stop out_old out_new rose;
+      }
 
-module _ (left0 left : Option (List ℕ)) (start middle : Told) (given : Option (List ℕ)) (in_old in_new out_old out_new : ℕ) (c d : Core) (stream : Waiting) (how : InputEnd) (damage : Option Damage)
-    (so : Progress c stream left0 left start middle) (ready : IsReady c) (drained : HasNoFrame stream.bytes) (cause : EndsFor (Some how) damage (input_change left0 left in_old in_new) so.read stream.bytes) where
+module _ (left0 left : Option (List ℕ)) (course0 course : Option Course) (start middle : Told) (given : Option (List ℕ)) (in_old in_new out_old out_new : ℕ) (c d : Core) (stream : Waiting) (ending : Ending)
+    (so : Progress c stream left0 left start middle) (ready : IsReady c) (drained : HasNoFrame stream.bytes) (cause : EndsBy ending stream left in_old in_new) where
   abbrev now : Told
   now = told given middle.handed middle.faults
 
-  ended_frames : (messages : List Said) → Frames (take (fed stream) so.read) (takes_of (onto messages (ends how ∷ so.order))) stream.bytes
+  abbrev come : InputChange
+  come = input_changed left0 left course0 course in_old in_new
+
+  ended_frames : (messages : List Said) → Frames (take (fed stream) so.read) (takes_of (onto messages (ends (how_of ending) ∷ so.order))) stream.bytes
   ended_frames messages =
       record {
-        frames = rw (takes_of-onto messages (ends how ∷ so.order), ← so.count, all_taken so.read) so.frames;
+        frames = rw (takes_of-onto messages (ends (how_of ending) ∷ so.order), ← so.count, all_taken so.read) so.frames;
         none = drained;
       }
 
   -- all was answered before the end, and what the end is owed was answered then
-  ended_settled : (messages : List Said) → Knows (state_of d) (onto messages (ends how ∷ so.order)) → IsSettled (onto messages (ends how ∷ so.order))
+  ended_settled : (messages : List Said) → Knows (state_of d) (onto messages (ends (how_of ending) ∷ so.order)) → IsSettled (onto messages (ends (how_of ending) ∷ so.order))
   ended_settled messages knows =
       let before = settled c so.order ready.free (known c so.order ready.quiet ready.alive so.stands) in
-      record { requests = none_open messages how so.order before.requests; nulls = knows.nulls_are }
+      record { requests = none_open messages (how_of ending) so.order before.requests; nulls = knows.nulls_are }
 
-  ends_well : Acts c d (ends how) middle.given given → IsQuiet d → IsAlive d
-      → Session (input_change left0 left in_old in_new) (tree_change start now) (output_change start now out_old out_new) (end_status how) (fed stream) damage
+  ends_well : Acts c d (ends (how_of ending)) middle.given given → IsQuiet d → IsAlive d
+      → Session come (files start now) (written start now out_old out_new) (status_by (InputEnded ending)) (fed stream) (damage_of ending)
   ends_well acts quiet alive =
-      let order = onto acts.messages (ends how ∷ so.order) in
+      let order = onto acts.messages (ends (how_of ending) ∷ so.order) in
       let knows = known d order quiet alive (acts.stands so.order so.stands) in
-      let ended = end_of-onto acts.messages (ends how ∷ so.order) in
-      let status_is = status_after-onto acts.messages (ends how ∷ so.order) in
-      let small : end_status how ≤ 3 = status_small how in
-      let tells = tells_end so.order how acts.messages [] start middle given so.tells (subst (λ bytes. Gives middle.given given bytes) (sym (append-nil _)) acts.put) in
+      let ended = end_of-onto acts.messages (ends (how_of ending) ∷ so.order) in
+      let status_is = status_after-onto acts.messages (ends (how_of ending) ∷ so.order) in
+      let low : status_by (InputEnded ending) ≤ 3 = ended_low ending in
+      let tells = tells_end so.order (how_of ending) acts.messages [] start middle given so.tells (subst (λ bytes. Gives middle.given given bytes) (sym (append-nil _)) acts.put) in
       record {
         order = order;
         lawful = stood_lawful d order (acts.stands so.order so.stands);
@@ -165,7 +262,8 @@ module _ (left0 left : Option (List ℕ)) (start middle : Told) (given : Option 
         rest = stream.bytes;
         frames = ended_frames acts.messages;
         counts = rw ended (sym so.count);
-        ends_for = rw ended cause;
+        ends_for = rw ended (ends_for ending stream come so.read (takes_of so.order) so.frames so.count cause);
+        in_last = λ _ none. absurd (some_end ended none);
         hands = tells.hands;
         failures = tells.failures;
         tail = [];
@@ -173,17 +271,17 @@ module _ (left0 left : Option (List ℕ)) (start middle : Told) (given : Option 
         cut = λ some. absurd (some refl);
         whole = λ _. refl;
         settled = λ _. ended_settled acts.messages knows;
-        agrees = λ _. status_is;
+        agrees = λ _. status_is ∙ ap Some (sym (ended_is ending));
         no_other = omega arith;
       }
 
-  ends_stopped : (status : ℕ) → 4 ≤ status → status ≤ 5 → HaltsAt c (ends how) middle.given given
-      → Session (input_change left0 left in_old in_new) (tree_change start now) (output_change start now out_old out_new) status (fed stream) damage
+  ends_stopped : (status : ℕ) → 4 ≤ status → status ≤ 5 → HaltsAt c (ends (how_of ending)) middle.given given
+      → Session come (files start now) (written start now out_old out_new) status (fed stream) (damage_of ending)
   ends_stopped status low high halts =
-      let ended = end_of-onto halts.messages (ends how ∷ so.order) in
-      let tells = tells_end so.order how halts.messages halts.tail start middle given so.tells halts.put in
+      let ended = end_of-onto halts.messages (ends (how_of ending) ∷ so.order) in
+      let tells = tells_end so.order (how_of ending) halts.messages halts.tail start middle given so.tells halts.put in
       record {
-        order = onto halts.messages (ends how ∷ so.order);
+        order = onto halts.messages (ends (how_of ending) ∷ so.order);
         lawful = halts.lawful so.order so.stands;
         read = so.read;
         consumed = so.consumed;
@@ -191,7 +289,8 @@ module _ (left0 left : Option (List ℕ)) (start middle : Told) (given : Option 
         rest = stream.bytes;
         frames = ended_frames halts.messages;
         counts = rw ended (sym so.count);
-        ends_for = rw ended cause;
+        ends_for = rw ended (ends_for ending stream come so.read (takes_of so.order) so.frames so.count cause);
+        in_last = λ small. absurd (omega arith);
         hands = tells.hands;
         failures = tells.failures;
         tail = halts.tail;
@@ -204,40 +303,23 @@ module _ (left0 left : Option (List ℕ)) (start middle : Told) (given : Option 
       }
 
   -- the session was told how its input ended
-  pub session_ends : (status : ℕ) → Finishes c d how middle.given given status
-      → Session (input_change left0 left in_old in_new) (tree_change start now) (output_change start now out_old out_new) status (fed stream) damage
-  session_ends status (ended acts quiet alive) = ends_well acts quiet alive
-  session_ends status (halted Sink halts) = ends_stopped 4 (lit≤ tt) (lit≤ tt) halts
-  session_ends status (halted NoMemory halts) = ends_stopped 5 (lit≤ tt) (lit≤ tt) halts
-
--- ---- why the input ended
-
-has_more : (stream : Waiting) (told : Change) (read : List ℕ) → length read ≡ fed stream → IsOut stream told.new → HasNoMore told read
-has_more stream told read count (inl dry) = inl dry
-has_more stream told read count (inr limit) = inr (count ∙ limit)
-
--- the damage of the bytes that wait is that of all bytes read
-read_damage : (read : List ℕ) (bodies : List (List ℕ)) (rest : List ℕ) (given_end place : ℕ) (damage : Damage) → FramesTo read bodies rest → length read ≡ given_end + length rest
-    → damage.place ≡ given_end + place → DamageAt rest place damage.kind → DamageAt read damage.place damage.kind
-read_damage read bodies rest given_end place damage frames count counted at =
-    let parts = frames_apart read bodies rest frames in
-    let there : DamageAt (parts.front ++ rest) (length parts.front + place) damage.kind = damage_behind parts.front bodies rest place damage.kind parts.frames at in
-    let same : damage.place ≡ length parts.front + place = omega (arith, counted, count, ap length parts.whole, length-append parts.front rest) in
-    rw (parts.whole, same) there
-
-is_damage : (damage : Damage) (stream : Waiting) (told : Change) (read : List ℕ) (bodies : List (List ℕ)) → FramesTo read bodies stream.bytes → length read ≡ fed stream
-    → EndsBy (Damaged damage) stream told → IsDamage (Some damage) told read stream.bytes
-is_damage damage stream told read bodies frames count (inl has) =
-    inl (read_damage read bodies stream.bytes stream.given_end has.place damage frames count has.counted has.at)
-is_damage damage stream told read bodies frames count (inr inside) =
-    inr (record { sound = sound_front read bodies stream.bytes frames inside.sound; kind = inside.kind; place = inside.place ∙ sym count; inside = inside.inside; no_more = has_more stream told read count inside.out })
-
-pub ends_for : (ending : Ending) (stream : Waiting) (told : Change) (read : List ℕ) (bodies : List (List ℕ)) → FramesTo read bodies stream.bytes → length read ≡ fed stream
-    → EndsBy ending stream told → EndsFor (Some (how_of ending)) (damage_of ending) told read stream.bytes
-ends_for Border stream told read bodies frames count cause = (cause.0, has_more stream told read count cause.1)
-ends_for (Damaged damage) stream told read bodies frames count cause = is_damage damage stream told read bodies frames count cause
-ends_for Failed stream told read bodies frames count cause =
-    (λ broken. broken_not_sound stream.bytes (broken_rest read bodies stream.bytes frames broken) cause.0, cause.1)
+  pub serves_end : (outcome : Outcome) → (outcome ≡ ended_by.Stopped Sink → Rose out_old out_new) → Finishes c d ending middle.given given outcome
+      → Serves come (files start now) (written start now out_old out_new) outcome (fed stream)
+  serves_end outcome rose (ended acts quiet alive) =
+      let low : status_by (InputEnded ending) ≤ 3 = ended_low ending in
+      record {
+        damage = damage_of ending;
+        session = ends_well acts quiet alive;
+        told = λ found same. told_damage ending found same;
+        sink = λ four. absurd (omega arith);
+      }
+  serves_end outcome rose (halted stop halts) =
+      record {
+        damage = damage_of ending;
+        session = ends_stopped (status_by (ended_by.Stopped stop)) (stopped_high stop) (stopped_within stop) halts;
+        told = λ found other. absurd (cc);
+        sink = stopped_sink stop out_old out_new (λ same. rose (ap ended_by.Stopped same));
+      }
 
 -- ---- at the start
 
@@ -255,9 +337,10 @@ starts core stream left now stands new =
     })
 
 -- nothing was read, asked or written, for want of memory
-pub session_idle : (left : Option (List ℕ)) (now : Told) (in_faults out_faults : ℕ) → Session (input_change left left in_faults in_faults) (tree_change now now) (output_change now now out_faults out_faults) 5 0 None
-session_idle left now in_faults out_faults =
-    stopped left left now now in_faults in_faults out_faults out_faults 0 5 (lit≤ tt) (lit≤ tt) (record {
+pub serves_nothing : (left : Option (List ℕ)) (course : Option Course) (now : Told) (in_faults out_faults : ℕ)
+    → Serves (input_changed left left course course in_faults in_faults) (files now now) (written now now out_faults out_faults) (ended_by.Stopped NoMemory) 0
+serves_nothing left course now in_faults out_faults =
+    serves_stop left left course course now now in_faults in_faults out_faults out_faults 0 NoMemory (λ other. absurd (cc)) (record {
       order = [];
       lawful = record { each = tt };
       unended = refl;
@@ -271,9 +354,6 @@ session_idle left now in_faults out_faults =
       cut = λ some. absurd (some refl);
     })
 
--- the cause of an end tells of what is left and of the faults, and not of what was left
-pub same_cause : (ending : Ending) (stream : Waiting) (old other new : Option (List ℕ)) (f g h : ℕ) → g ≡ f
-    → EndsBy ending stream (record { old = old; new = new; faults_old = g; faults_new = h }) → EndsBy ending stream (record { old = other; new = new; faults_old = f; faults_new = h })
-same_cause Border stream old other new f g h same cause = cause
-same_cause (Damaged damage) stream old other new f g h same cause = cause
-same_cause Failed stream old other new f g h same cause = rw (← same) cause
+-- the cause of an end tells how the faults rose since the start
+pub same_cause : (ending : Ending) (stream : Waiting) (left : Option (List ℕ)) (f g h : ℕ) → g ≡ f → EndsBy ending stream left g h → EndsBy ending stream left f h
+same_cause ending stream left f g h same cause = subst (λ before. EndsBy ending stream left before h) same cause

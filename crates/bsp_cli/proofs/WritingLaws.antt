@@ -1,5 +1,5 @@
 -- How what is written piece by piece, or message by message, joins.
-use Rattle.std.proofs.Common.{◌≡◌, ◌++◌, ◌<◌, ℕ, List, [], ◌∷◌, length, take, drop, flat_map, Option, None, Result, Ok, Err, OnOk, OnErr, refl, sym, ap, ◌∙◌, subst, arith, append_assoc, append-nil, length-append}
+use Rattle.std.proofs.Common.{◌≡◌, ◌++◌, ◌<◌, ℕ, List, [], ◌∷◌, length, take, drop, flat_map, Option, None, Result, Ok, Err, IfOk, OnOk, OnErr, IsErrOf, refl, sym, ap, ◌∙◌, subst, arith, append_assoc, append-nil, length-append}
 use Rattle.std.proofs.lemmas.List.{take-append-drop}
 use Rattle.bsp_edge.specs.Handing.{Hands}
 use Rattle.bsp_edge.specs.Streams.{Gives}
@@ -94,6 +94,22 @@ on_err_then (Err e) P Q next p = next p
 pub on_ok_then : {A E : Type 0} (r : Result A E) (P Q : Type 0) → (P → Q) → OnOk r P → OnOk r Q
 on_ok_then (Ok a) P Q next p = next p
 on_ok_then (Err e) P Q next p = tt
+
+pub on_ok : {A E : Type 0} (r : Result A E) (P : Type 0) → P → OnOk r P
+on_ok (Ok a) P p = p
+on_ok (Err e) P p = tt
+
+-- why a call stops doesn't depend on what it would have answered
+pub stopped_so : {A B : Type 0} (e f : Stop) → IsErrOf {T = A} (Err e) f → IsErrOf {T = B} (Err e) f
+stopped_so e f failed = let same : e ≡ f = cc in ap Err same
+
+pub if_ok_then : {A E : Type 0} (r : Result A E) (P Q : A → Type 0) → ((a : A) → P a → Q a) → IfOk r P → IfOk r Q
+if_ok_then (Ok a) P Q next p = next a p
+if_ok_then (Err e) P Q next p = tt
+
+pub if_ok_with : {A E : Type 0} (r : Result A E) (C : Type 0) (P Q : A → Type 0) → ((a : A) → C → P a → Q a) → OnOk r C → IfOk r P → IfOk r Q
+if_ok_with (Ok a) C P Q next fact p = next a fact p
+if_ok_with (Err e) C P Q next fact p = tt
 
 -- ---- messages
 

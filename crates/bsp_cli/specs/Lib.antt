@@ -1,8 +1,9 @@
-pub mod Endings
+pub mod Outcomes
+pub mod Places
 pub mod Words
-pub mod Notes
 pub mod Session
-pub mod Served
 pub mod Outside
 pub mod Writing
+pub mod Notes
+pub mod Served
 pub mod Progress

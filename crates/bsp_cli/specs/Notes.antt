@@ -4,6 +4,11 @@ use Rattle.bsp_edge.specs.Faults.{Rose}
 use Rattle.bsp_edge.specs.Streams.{Gives}
 use Rattle.rpc_frame.specs.declared.damage.Damage.{Damage}
 use Rattle.rpc_frame.specs.declared.damage.DamageKind.{DamageKind}
+use Rattle.bsp_cli.specs.Session.{Change}
+use Rattle.bsp_cli.specs.Writing.{GivesFront}
+use Rattle.bsp_cli.specs.declared.outcome.Ending.TheVariants as ending
+use Rattle.bsp_cli.specs.declared.outcome.Outcome.{Outcome}
+use Rattle.bsp_cli.specs.declared.outcome.Outcome.TheVariants.{Exited, InputEnded, Stopped, Unasked}
 use Rattle.rpc_frame.specs.declared.damage.DamageKind.TheVariants.{BadLine, TwoLengths, BadLength, TooLong, NoLength, HeaderTooLong, Truncated}
 
 unfoldable pub kind_name : DamageKind → List ℕ
@@ -37,22 +42,17 @@ abbrev pub note_for : ℕ → Option Damage → List ℕ
 note_for status None = fixed_note status
 note_for status (Some damage) = if status == 2 then damaged_note damage else fixed_note status
 
--- a note was given in part, or nothing was
-pub record GivesPart (old new : Option (List ℕ)) : Type 0 where
-  pub status : ℕ
-  pub damage : Option Damage
-  pub part : List ℕ
-  pub rest : List ℕ
-  pub whole : note_for status damage ≡ part ++ rest
-  pub given : Gives old new part
+-- the note that goes with an outcome
+abbrev pub note_of : Outcome → List ℕ
+note_of (Exited closed) = []
+note_of (InputEnded ending.Border) = []
+note_of (InputEnded (ending.Damaged damage)) = damaged_note damage
+note_of (InputEnded ending.Failed) = failed_note
+note_of (Stopped stop) = []
+note_of Unasked = usage_note
 
--- the notes that a run leaves which ends with this status, of this damage
-pub record Notes (old new : Option (List ℕ)) (status : ℕ) (damage : Option Damage) : Type 0 where
-  pub whole : (status ≡ 4 → ⊥) → Gives old new (note_for status damage)
-  pub part : status ≡ 4 → GivesPart old new
-
--- a run that would end with the status `owed` leaves its note, and ends so, or with 4 where the
--- notes failed
-pub data NotedAs (old new : Option (List ℕ)) (faults_old faults_new owed : ℕ) (damage : Option Damage) : ℕ → Type 0 where
-  whole : Gives old new (note_for owed damage) → NotedAs old new faults_old faults_new owed damage owed
-  failed : GivesPart old new → Rose faults_old faults_new → NotedAs old new faults_old faults_new owed damage 4
+-- A run that is owed this status leaves this note, and ends so. Where the notes failed it leaves a proper front of it,
+-- and ends with 4.
+pub data Noted (notes : Change) (note : List ℕ) (owed : ℕ) : ℕ → Type 0 where
+  whole : Gives notes.old notes.new note → Noted notes note owed owed
+  failed : GivesFront notes.old notes.new note → Rose notes.faults_old notes.faults_new → Noted notes note owed 4

@@ -1,23 +1,26 @@
 -- How far a session has come.
-use Rattle.std.specs.Prelude.{◌≡◌, ◌≢◌, ◌⊎◌, ◌+◌, ◌++◌, ◌<◌, ℕ, List, [], length, Option, None}
+use Rattle.std.specs.Prelude.{◌≡◌, ◌≢◌, ◌⊎◌, ◌+◌, ◌++◌, ◌<◌, ◌≤◌, ℕ, List, [], length, take, Option, None}
+use Rattle.std.specs.Option.{option_map}
+use Rattle.bsp_edge.specs.Course.{Course, moved}
 use Rattle.bsp_edge.specs.Faults.{Rose}
 use Rattle.bsp_edge.specs.Streams.{Takes, IsDry}
 use Rattle.rpc_frame.specs.Frames.{FramesTo, HasNoFrame, IsSound, Waiting}
-use Rattle.rpc_frame.specs.declared.TheConstants.{STREAM_LIMIT}
+use Rattle.rpc_frame.specs.Limits.{stream_limit}
 use Rattle.rpc_frame.specs.declared.damage.Damage.{Damage}
 use Rattle.rpc_frame.specs.declared.damage.DamageKind.TheVariants.{Truncated}
 use Rattle.rpc_frame.specs.Damages.{HasDamage}
-use Rattle.session_law.specs.declared.InputEnd.{InputEnd}
 use Rattle.session_law.specs.Lawful.{Lawful}
 use Rattle.session_law.specs.Order.{Event, ends, takes_of, end_of}
-use Rattle.session_law.specs.Past.{end_status}
 use Rattle.session_core.specs.Standing.{StandsFor, IsQuiet, IsFree, IsAlive, status_of}
 use Rattle.session_core.specs.declared.session.Core.{Core}
-use Rattle.bsp_cli.specs.Session.{Change, IsCut}
+use Rattle.bsp_cli.specs.Outcomes.{how_of}
+use Rattle.bsp_cli.specs.Session.{IsCut}
 use Rattle.bsp_cli.specs.Outside.{Told, Tells}
-use Rattle.bsp_cli.specs.Writing.{Acts, HaltsAt, status_of_stop}
-use Rattle.bsp_cli.specs.declared.serve.Ending.{Ending}
-use Rattle.bsp_cli.specs.declared.serve.Ending.TheVariants.{Border, Damaged, Failed}
+use Rattle.bsp_cli.specs.Writing.{Acts, HaltsAt}
+use Rattle.bsp_cli.specs.declared.outcome.Ending.{Ending}
+use Rattle.bsp_cli.specs.declared.outcome.Ending.TheVariants.{Border, Damaged, Failed}
+use Rattle.bsp_cli.specs.declared.outcome.Outcome.{Outcome}
+use Rattle.bsp_cli.specs.declared.outcome.Outcome.TheVariants as outcomes
 use Rattle.bsp_cli.specs.declared.stop.Stop.{Stop}
 
 -- the core may be given the next event
@@ -59,21 +62,16 @@ pub record Stopped (given_end : ℕ) (left0 left : Option (List ℕ)) (start now
 
 -- ---- the next piece
 
--- a piece was taken from the input, and the decoder has it
-pub record Feeds (old new : Waiting) (left left_new : Option (List ℕ)) : Type 0 where
-  pub piece : List ℕ
-  pub taken : Takes left left_new piece
-  pub stream : new ≡ record old { bytes = old.bytes ++ piece }
-
--- a piece was taken from the input, and the decoder has none of it
-pub record Loses (old new : Waiting) (left left_new : Option (List ℕ)) : Type 0 where
-  pub piece : List ℕ
-  pub taken : Takes left left_new piece
-  pub stream : new ≡ old
+-- a piece of this many bytes was read into the front of `into`
+pub record Fetches (left left_new : Option (List ℕ)) (course course_new : Option Course) (into : List ℕ) (count : ℕ) : Type 0 where
+  pub some : 0 < count
+  pub fits : count ≤ length into
+  pub taken : Takes left left_new (take count into)
+  pub moves : course_new ≡ option_map (moved count) course
 
 -- nothing more is left of the input, or its limit is reached
 abbrev pub IsOut : Waiting → Option (List ℕ) → Type 0
-IsOut stream left = IsDry left ⊎ (fed stream ≡ STREAM_LIMIT)
+IsOut stream left = IsDry left ⊎ (fed stream ≡ stream_limit)
 
 -- the bytes that wait have no more, and end inside a frame
 pub record EndsInside (stream : Waiting) (left : Option (List ℕ)) (damage : Damage) : Type 0 where
@@ -84,10 +82,10 @@ pub record EndsInside (stream : Waiting) (left : Option (List ℕ)) (damage : Da
   pub out : IsOut stream left
 
 -- why the input is found to have ended, by the bytes that wait
-abbrev pub EndsBy : Ending → Waiting → Change → Type 0
-EndsBy Border stream input = (stream.bytes ≡ []) × IsOut stream input.new
-EndsBy (Damaged damage) stream input = HasDamage stream damage ⊎ EndsInside stream input.new damage
-EndsBy Failed stream input = IsSound stream.bytes × Rose input.faults_old input.faults_new
+abbrev pub EndsBy : Ending → Waiting → Option (List ℕ) → ℕ → ℕ → Type 0
+EndsBy Border stream left faults_old faults_new = (stream.bytes ≡ []) × IsOut stream left
+EndsBy (Damaged damage) stream left faults_old faults_new = HasDamage stream damage ⊎ EndsInside stream left damage
+EndsBy Failed stream left faults_old faults_new = IsSound stream.bytes × Rose faults_old faults_new
 
 -- ---- the next turn
 
@@ -107,12 +105,16 @@ pub record HasEnded (core : Core) (status : Option ℕ) : Type 0 where
   pub status_is : status_of core ≡ status
 
 -- the core may be told how the input ended
-pub record MayEnd (core : Core) (stream : Waiting) (ending : Ending) (input : Change) : Type 0 where
+pub record MayEnd (core : Core) (stream : Waiting) (ending : Ending) (left : Option (List ℕ)) (faults_old faults_new : ℕ) : Type 0 where
   pub ready : IsReady core
   pub drained : HasNoFrame stream.bytes
-  pub cause : EndsBy ending stream input
+  pub cause : EndsBy ending stream left faults_old faults_new
+
+-- a frame was acted on that ends behind each front of the bytes in which none is whole
+abbrev pub Passes : Waiting → Waiting → Type 0
+Passes old new = (front rest : List ℕ) → old.bytes ≡ front ++ rest → HasNoFrame front → old.given_end + length front < new.given_end
 
 -- the core acted on the end of the input and owes nothing more, or the session had to stop
-pub data Finishes (c d : Core) (how : InputEnd) (old new : Option (List ℕ)) : ℕ → Type 0 where
-  ended : Acts c d (ends how) old new → IsQuiet d → IsAlive d → Finishes c d how old new (end_status how)
-  halted : (stop : Stop) → HaltsAt c (ends how) old new → Finishes c d how old new (status_of_stop stop)
+pub data Finishes (c d : Core) (ending : Ending) (old new : Option (List ℕ)) : Outcome → Type 0 where
+  ended : Acts c d (ends (how_of ending)) old new → IsQuiet d → IsAlive d → Finishes c d ending old new (outcomes.InputEnded ending)
+  halted : (stop : Stop) → HaltsAt c (ends (how_of ending)) old new → Finishes c d ending old new (outcomes.Stopped stop)

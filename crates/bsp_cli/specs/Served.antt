@@ -1,21 +1,34 @@
 -- What a run of the program does whose words ask to serve, and of one whose words ask for nothing.
-use Rattle.std.specs.Prelude.{◌≡◌, ◌⊎◌, ℕ, Option, None}
+use Rattle.std.specs.Prelude.{◌≡◌, ◌⊎◌, ℕ, Option, None, Some}
+use Rattle.bsp_edge.specs.Faults.{Rose}
 use Rattle.rpc_frame.specs.declared.damage.Damage.{Damage}
-use Rattle.bsp_cli.specs.Notes.{Notes}
-use Rattle.bsp_cli.specs.Session.{Change, TreeChange, Session}
+use Rattle.bsp_cli.specs.Notes.{Noted, note_for}
+use Rattle.bsp_cli.specs.Outcomes.{status_by}
+use Rattle.bsp_cli.specs.Session.{Change, InputChange, TreeChange, Session}
+use Rattle.bsp_cli.specs.declared.outcome.Ending.TheVariants.{Damaged}
+use Rattle.bsp_cli.specs.declared.outcome.Outcome.{Outcome}
+use Rattle.bsp_cli.specs.declared.outcome.Outcome.TheVariants.{InputEnded}
 
--- a session, and the notes that belong to it
-pub record Served (input : Change) (tree : TreeChange) (output notes : Change) (status taken : ℕ) : Type 0 where
+-- A session, and the note that it is owed. The run ends with the session's status, or with 4 where the notes failed.
+pub record Served (input : InputChange) (tree : TreeChange) (output notes : Change) (status taken : ℕ) : Type 0 where
+  pub owed : ℕ
   pub damage : Option Damage
-  pub session : Session input tree output status taken damage
-  pub noted : Notes notes.old notes.new status damage
+  pub session : Session input tree output owed taken damage
+  pub sink : owed ≡ 4 → Rose output.faults_old output.faults_new
+  pub noted : Noted notes (note_for owed damage) owed status
 
 -- nothing is read, asked of the tree or written, and the usage is said
-pub record Idle (input : Change) (tree : TreeChange) (output notes : Change) (status taken : ℕ) : Type 0 where
+pub record Idle (input : InputChange) (tree : TreeChange) (output notes : Change) (status taken : ℕ) : Type 0 where
   pub unread : input.new ≡ input.old
   pub unasked : tree.new ≡ tree.old
   pub unfailed : tree.faults_new ≡ tree.faults_old
   pub unwritten : output.new ≡ output.old
-  pub noted : Notes notes.old notes.new status None
+  pub noted : Noted notes (note_for 6 None) 6 status
   pub no_bytes : taken ≡ 0
-  pub status_is : (status ≡ 6) ⊎ (status ≡ 4)
+
+-- a session that is over for this outcome
+pub record Serves (input : InputChange) (tree : TreeChange) (output : Change) (outcome : Outcome) (taken : ℕ) : Type 0 where
+  pub damage : Option Damage
+  pub session : Session input tree output (status_by outcome) taken damage
+  pub told : (found : Damage) → outcome ≡ InputEnded (Damaged found) → damage ≡ Some found
+  pub sink : status_by outcome ≡ 4 → Rose output.faults_old output.faults_new

@@ -2,11 +2,12 @@
 -- tree handed out and the bytes written are the takes, the hands and the writes of one lawful order, and
 -- the status agrees with it.
 use Rattle.std.specs.Prelude.{◌≡◌, ◌≢◌, ◌⊎◌, ◌+◌, ◌-◌, ◌^◌, ◌++◌, ◌≤◌, ◌<◌, ℕ, List, [], length, take, flat_map, Option, Some, None}
+use Rattle.bsp_edge.specs.Course.{Course}
 use Rattle.bsp_edge.specs.Faults.{Rose}
 use Rattle.bsp_edge.specs.Handing.{Entries, Hands}
 use Rattle.bsp_edge.specs.Streams.{Takes, Gives, IsDry}
 use Rattle.rpc_frame.specs.Frames.{Frames, IsBroken, IsSound}
-use Rattle.rpc_frame.specs.declared.TheConstants.{STREAM_LIMIT}
+use Rattle.rpc_frame.specs.Limits.{stream_limit}
 use Rattle.rpc_frame.specs.declared.damage.Damage.{Damage}
 use Rattle.rpc_frame.specs.declared.damage.DamageKind.TheVariants.{Truncated}
 use Rattle.rpc_frame.specs.Damages.{DamageAt}
@@ -18,13 +19,30 @@ use Rattle.session_law.specs.IsFramed.{IsFramed, text_of}
 use Rattle.session_law.specs.Lawful.{Lawful}
 use Rattle.session_law.specs.Order.{Event, takes_of, writes_of, hands_of, failures_of, end_of}
 use Rattle.session_law.specs.Past.{status_after}
+use Rattle.bsp_cli.specs.Places.{EndsInLast, WhereTold}
 
--- what one source or sink told before a call and behind it
+-- what a source told before a call and behind it: what is left, its course, and the faults
+pub record InputChange : Type 0 where
+  pub old : Option (List ℕ)
+  pub new : Option (List ℕ)
+  pub course_old : Option Course
+  pub course_new : Option Course
+  pub faults_old : ℕ
+  pub faults_new : ℕ
+
+abbrev pub input_changed : Option (List ℕ) → Option (List ℕ) → Option Course → Option Course → ℕ → ℕ → InputChange
+input_changed old new course_old course_new faults_old faults_new =
+    record { old = old; new = new; course_old = course_old; course_new = course_new; faults_old = faults_old; faults_new = faults_new }
+
+-- what a sink told before a call and behind it: what it was given, and the faults
 pub record Change : Type 0 where
   pub old : Option (List ℕ)
   pub new : Option (List ℕ)
   pub faults_old : ℕ
   pub faults_new : ℕ
+
+abbrev pub changed : Option (List ℕ) → Option (List ℕ) → ℕ → ℕ → Change
+changed old new faults_old faults_new = record { old = old; new = new; faults_old = faults_old; faults_new = faults_new }
 
 -- what one tree told before a call and behind it: the snapshots handed out, and the faults
 pub record TreeChange : Type 0 where
@@ -32,6 +50,9 @@ pub record TreeChange : Type 0 where
   pub new : Option (List Entries)
   pub faults_old : ℕ
   pub faults_new : ℕ
+
+abbrev pub tree_changed : Option (List Entries) → Option (List Entries) → ℕ → ℕ → TreeChange
+tree_changed old new faults_old faults_new = record { old = old; new = new; faults_old = faults_old; faults_new = faults_new }
 
 -- A count of faults went up by no less than these failures, unless it stands at its last value, and it
 -- is the same where there were none.
@@ -49,11 +70,11 @@ pub record IsCut (bytes : List ℕ) : Type 0 where
   pub whole : text_of message ≡ bytes ++ rest
 
 -- the input has no more: nothing is left of it, or it reached its limit
-abbrev pub HasNoMore : Change → List ℕ → Type 0
-HasNoMore input read = IsDry input.new ⊎ (length read ≡ STREAM_LIMIT)
+abbrev pub HasNoMore : InputChange → List ℕ → Type 0
+HasNoMore input read = IsDry input.new ⊎ (length read ≡ stream_limit)
 
 -- the bytes have no more and end inside a frame, which nothing before is wrong with
-pub record IsTruncated (input : Change) (read rest : List ℕ) (damage : Damage) : Type 0 where
+pub record IsTruncated (input : InputChange) (read rest : List ℕ) (damage : Damage) : Type 0 where
   pub sound : IsSound read
   pub kind : damage.kind ≡ Truncated
   pub place : damage.place ≡ length read
@@ -61,12 +82,12 @@ pub record IsTruncated (input : Change) (read rest : List ℕ) (damage : Damage)
   pub no_more : HasNoMore input read
 
 -- the damage is in the bytes, or at their end
-abbrev pub IsDamage : Option Damage → Change → List ℕ → List ℕ → Type 0
+abbrev pub IsDamage : Option Damage → InputChange → List ℕ → List ℕ → Type 0
 IsDamage None input read rest = ⊥
 IsDamage (Some damage) input read rest = DamageAt read damage.place damage.kind ⊎ IsTruncated input read rest damage
 
 -- why the input is found to have ended so
-abbrev pub EndsFor : Option InputEnd → Option Damage → Change → List ℕ → List ℕ → Type 0
+abbrev pub EndsFor : Option InputEnd → Option Damage → InputChange → List ℕ → List ℕ → Type 0
 EndsFor None damage input read rest = Unit {0}
 EndsFor (Some Border) damage input read rest = (rest ≡ []) × HasNoMore input read
 EndsFor (Some Damaged) damage input read rest = IsDamage damage input read rest
@@ -78,7 +99,7 @@ abbrev pub Counts : Option InputEnd → ℕ → List ℕ → List ℕ → Type 0
 Counts None taken read rest = rest ≡ []
 Counts (Some how) taken read rest = taken ≡ length read
 
-pub record Session (input : Change) (tree : TreeChange) (output : Change) (status taken : ℕ) (damage : Option Damage) : Type 0 where
+pub record Session (input : InputChange) (tree : TreeChange) (output : Change) (status taken : ℕ) (damage : Option Damage) : Type 0 where
   -- the one order
   pub order : List Event
   pub lawful : Lawful order
@@ -90,6 +111,8 @@ pub record Session (input : Change) (tree : TreeChange) (output : Change) (statu
   pub frames : Frames (take taken read) (takes_of order) rest
   pub counts : Counts (end_of order) taken read rest
   pub ends_for : EndsFor (end_of order) damage input read rest
+  -- where the input wasn't found to have ended, the session took an exit, which lies in the last piece that was read
+  pub in_last : status < 4 → end_of order ≡ None → WhereTold (EndsInLast taken) input.course_old input.course_new
   -- its hands are what the tree handed out, and its failures are among the tree's faults
   pub hands : Hands tree.old tree.new (hands_of order)
   pub failures : RoseBy (failures_of order) tree.faults_old tree.faults_new

@@ -12,11 +12,6 @@ use Rattle.bsp_cli.specs.Session.{IsCut}
 use Rattle.bsp_cli.specs.declared.stop.Stop.{Stop}
 use Rattle.bsp_cli.specs.declared.stop.Stop.TheVariants.{Sink, NoMemory}
 
--- the status of a session that stopped
-abbrev pub status_of_stop : Stop → ℕ
-status_of_stop Sink = 4
-status_of_stop NoMemory = 5
-
 -- these bytes were given but for the last of them
 pub record GivesFront (old new : Option (List ℕ)) (bytes : List ℕ) : Type 0 where
   pub front : List ℕ

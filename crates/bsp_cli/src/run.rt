@@ -1,31 +1,32 @@
-ghost use Rattle.std.specs.Prelude.{◌≡◌, ◌≤◌, ◌⊎◌, ℕ, List};
+ghost use Rattle.std.specs.Prelude.{◌≡◌, ◌≤◌, ◌⊎◌, OnOk, OnErr, IsErr};
 ghost use Rattle.bsp_edge.specs.Faults.{Rose};
-ghost use Rattle.bsp_cli.specs.Notes.{NotedAs};
+ghost use Rattle.bsp_cli.specs.Notes.{Noted, note_of};
+ghost use Rattle.bsp_cli.specs.Outcomes.{code_of, status_by};
 ghost use Rattle.bsp_cli.specs.Served.{Idle, Served};
-ghost use Rattle.bsp_cli.specs.Words.{AskNothing, ServesFolder};
+ghost use Rattle.bsp_cli.specs.Session.{changed, input_changed, tree_changed};
 
 use crate::notes::write_note;
-use crate::serve::{Ended, serve};
-use crate::words::{Command, Usage, read_words};
+use crate::outcome::Outcome;
+use crate::serve::serve;
+use crate::status::Status;
+use crate::stop::Stop;
+use crate::words::{Command, Usage};
 use crate::writing::SinkFailed;
 use bsp_edge::{Sink, Source, Tree};
-use ob_text::Text;
-use rpc_frame::Damage;
 use std::alloc::Global;
 
-/// The status of words that ask for nothing that the program does.
-const USAGE: u8 = 6;
+/// How a run ended, and how many bytes of its input it acted on.
+#[derive(Clone, Copy, Debug, PartialEq, Eq)]
+pub struct Ended {
+    pub status: Status,
+    pub taken: u64,
+}
 
-/// The status of a run in which a sink failed.
-const SINK: u8 = 4;
-
-/// Runs the program on the words of its command line. The status is 0 where the client exits after
-/// a shutdown that was answered, 1 where it exits or its input ends without one, 2 where its input
-/// is damaged or ends inside a frame, 3 where reading failed, 4 where writing failed, 5 where there
-/// was no memory, and 6 where the words aren't known.
+/// Runs the program on what the words of its command line ask for, as `read_words` reads them. The folder
+/// is the tree's, which the caller makes of it.
 pub fn run_words<S: Source, T: Tree, K: Sink>(
     alloc: Global,
-    words: &[Text],
+    asked: Result<Command<'_>, Usage>,
     input: &mut S,
     tree: &mut T,
     output: &mut K,
@@ -33,95 +34,52 @@ pub fn run_words<S: Source, T: Tree, K: Sink>(
 ) -> Ended
     // The bytes taken, what the tree handed out and the bytes written are the takes, the hands and
     // the writes of one lawful order, and the notes tell the damage that ended it.
-    ensures session { (folder : List ℕ) → ServesFolder words.now folder → Served
-        (record {
-          old = S.left input.old;
-          new = S.left input.new;
-          faults_old = S.faults input.old;
-          faults_new = S.faults input.new;
-        })
-        (record {
-          old = T.handed tree.old;
-          new = T.handed tree.new;
-          faults_old = T.faults tree.old;
-          faults_new = T.faults tree.new;
-        })
-        (record {
-          old = K.given output.old;
-          new = K.given output.new;
-          faults_old = K.faults output.old;
-          faults_new = K.faults output.new;
-        })
-        (record {
-          old = K.given notes.old;
-          new = K.given notes.new;
-          faults_old = K.faults notes.old;
-          faults_new = K.faults notes.new;
-        })
-        result.status result.taken }
+    ensures session { OnOk asked.entry (Served
+        (input_changed (S.left input.old) (S.left input.new) (S.course input.old) (S.course input.new)
+        (S.faults input.old) (S.faults input.new))
+        (tree_changed (T.handed tree.old) (T.handed tree.new) (T.faults tree.old) (T.faults tree.new))
+        (changed (K.given output.old) (K.given output.new) (K.faults output.old) (K.faults output.new))
+        (changed (K.given notes.old) (K.given notes.new) (K.faults notes.old) (K.faults notes.new))
+        (code_of result.status) result.taken) }
 
     // Other words read nothing, ask the tree nothing and write nothing.
-    ensures idle { AskNothing words.now → Idle
-        (record {
-          old = S.left input.old;
-          new = S.left input.new;
-          faults_old = S.faults input.old;
-          faults_new = S.faults input.new;
-        })
-        (record {
-          old = T.handed tree.old;
-          new = T.handed tree.new;
-          faults_old = T.faults tree.old;
-          faults_new = T.faults tree.new;
-        })
-        (record {
-          old = K.given output.old;
-          new = K.given output.new;
-          faults_old = K.faults output.old;
-          faults_new = K.faults output.new;
-        })
-        (record {
-          old = K.given notes.old;
-          new = K.given notes.new;
-          faults_old = K.faults notes.old;
-          faults_new = K.faults notes.new;
-        })
-        result.status result.taken }
-    ensures usage { result.status ≡ 6 → AskNothing words.now }
+    ensures idle { OnErr asked.entry (Idle
+        (input_changed (S.left input.old) (S.left input.new) (S.course input.old) (S.course input.new)
+        (S.faults input.old) (S.faults input.new))
+        (tree_changed (T.handed tree.old) (T.handed tree.new) (T.faults tree.old) (T.faults tree.new))
+        (changed (K.given output.old) (K.given output.new) (K.faults output.old) (K.faults output.new))
+        (changed (K.given notes.old) (K.given notes.new) (K.faults notes.old) (K.faults notes.new))
+        (code_of result.status) result.taken) }
+    ensures usage { code_of result.status ≡ 6 → IsErr asked.entry }
 
     // Why a run fails that isn't the client's fault.
-    ensures input { result.status ≡ 3 → Rose (S.faults input.old) (S.faults input.new) }
-    ensures sink { result.status ≡ 4 → Rose (K.faults output.old) (K.faults output.new)
+    ensures input { code_of result.status ≡ 3 → Rose (S.faults input.old) (S.faults input.new) }
+    ensures sink { code_of result.status ≡ 4 → Rose (K.faults output.old) (K.faults output.new)
         ⊎ Rose (K.faults notes.old) (K.faults notes.new) }
-    ensures known { result.status ≤ 6 }
 {
-    match read_words(words) {
+    match asked {
         Ok(Command::Serve { folder: _ }) => {
             let served = serve(alloc, input, tree, output);
-            note(notes, served.ended, served.damage)
-        }
-        Err(Usage) => note(
-            notes,
             Ended {
-                status: USAGE,
-                taken: 0,
-            },
-            None,
-        ),
+                status: note(notes, served.outcome),
+                taken: served.taken,
+            }
+        }
+        Err(Usage) => Ended {
+            status: note(notes, Outcome::Unasked),
+            taken: 0,
+        },
     }
 }
 
-/// Says what belongs to the status, and answers how the run ended then.
-fn note<K: Sink>(notes: &mut K, ended: Ended, damage: Option<Damage>) -> Ended
-    ensures noted { NotedAs (K.given notes.old) (K.given notes.new) (K.faults notes.old)
-        (K.faults notes.new) ended.status damage result.status }
-    ensures taken { result.taken ≡ ended.taken }
+/// Says what belongs to the outcome, and answers the status that the run ends with.
+fn note<K: Sink>(notes: &mut K, outcome: Outcome) -> Status
+    ensures { Noted
+        (changed (K.given notes.old) (K.given notes.new) (K.faults notes.old) (K.faults notes.new))
+        (note_of outcome) (status_by outcome) (code_of result) }
 {
-    match write_note(notes, ended.status, damage) {
-        Ok(()) => ended,
-        Err(SinkFailed) => Ended {
-            status: SINK,
-            taken: ended.taken,
-        },
+    match write_note(notes, outcome) {
+        Ok(()) => outcome.status(),
+        Err(SinkFailed) => Outcome::Stopped(Stop::Sink).status(),
     }
 }

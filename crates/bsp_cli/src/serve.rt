@@ -1,76 +1,36 @@
-ghost use Rattle.std.specs.Prelude.{◌≡◌, ◌+◌, ◌<◌, ◌≤◌, ℕ, Bool, true, false, List, [], length, Option, Some, None, Ok, IfOk, OnOk, OnErr, IsErrOf};
+ghost use Rattle.std.specs.Prelude.{◌≡◌, ◌+◌, ◌++◌, ◌<◌, ◌≤◌, ℕ, List, [], length, Option, Some, None, Ok, IfOk, IfSome, OnOk, OnErr, IsErrOf, IsSome};
+ghost use Rattle.bsp_edge.specs.Course.{Course};
 ghost use Rattle.bsp_edge.specs.Faults.{Rose};
+ghost use Rattle.bsp_edge.specs.Streams.{Takes};
 ghost use Rattle.rpc_frame.specs.declared.damage.Damage.{Damage};
 ghost use Rattle.rpc_frame.specs.Damages.{HasDamage};
 ghost use Rattle.rpc_frame.specs.Frames.{HasNoFrame, IsSound};
-ghost use Rattle.session_law.specs.declared.InputEnd.{InputEnd};
+ghost use Rattle.rpc_frame.specs.Limits.{stream_limit};
 ghost use Rattle.session_law.specs.Order.{Event};
-ghost use Rattle.session_law.specs.Past.{end_status};
 ghost use Rattle.session_core.specs.Standing.{StandsFor, IsAlive, IsFree, IsQuiet, status_of};
-ghost use Rattle.bsp_cli.specs.Progress.{EndsBy, Feeds, Finishes, HasEnded, IsOut, IsReady, Loses, MayEnd, MayGoOn, Progress, Stopped, fed};
-ghost use Rattle.bsp_cli.specs.Session.{Change, TreeChange, Session};
-ghost use Rattle.bsp_cli.specs.declared.serve.Ending.{Ending};
+ghost use Rattle.bsp_cli.specs.Places.{EndsInLast, IsAt, WhereTold};
+ghost use Rattle.bsp_cli.specs.Progress.{EndsBy, Fetches, Finishes, HasEnded, IsOut, IsReady, MayEnd, MayGoOn, Passes, Progress, Stopped, fed};
+ghost use Rattle.bsp_cli.specs.Served.{Serves};
+ghost use Rattle.bsp_cli.specs.Session.{changed, input_changed, tree_changed};
+ghost use Rattle.bsp_cli.specs.declared.outcome.Ending.{Ending};
 ghost use Rattle.bsp_cli.specs.Outside.{Told, told};
 
-use crate::acting::{act, act_on_end};
+use crate::outcome::{Ending, Outcome};
+use crate::responder::Responder;
 use crate::stop::Stop;
 use bsp_edge::{Got, Sink, Source, Tree};
 use ob_text::NoMemory;
 use rpc_frame::{Damage, DamageKind, Decoder, FeedFault, STREAM_LIMIT};
-use session_core::Core;
-use session_law::InputEnd;
 use std::alloc::Global;
 
 /// The most bytes of one piece of the input.
 const PIECE: usize = 65_536;
 
-/// How a session ended, and how many bytes of its input it acted on.
-#[derive(Clone, Copy, Debug, PartialEq, Eq)]
-pub struct Ended {
-    pub status: u8,
-    pub taken: u64,
-}
-
-/// How an input ends, and where it is damaged.
-#[derive(Clone, Copy, Debug, PartialEq, Eq)]
-pub enum Ending {
-    /// Behind a whole frame, or before the first.
-    Border,
-    Damaged(Damage),
-    /// Reading failed.
-    Failed,
-}
-
-impl Ending {
-    ghost use Rattle.std.specs.Prelude.{◌≡◌};
-    ghost use Rattle.bsp_cli.specs.Endings.{damage_of, how_of};
-
-    /// What the session is told of it.
-    fn how(self) -> InputEnd
-        ensures { result ≡ how_of self }
-    {
-        match self {
-            Ending::Border => InputEnd::Border,
-            Ending::Damaged(_) => InputEnd::Damaged,
-            Ending::Failed => InputEnd::Failed,
-        }
-    }
-
-    fn damage(self) -> Option<Damage>
-        ensures { result ≡ damage_of self }
-    {
-        match self {
-            Ending::Damaged(damage) => Some(damage),
-            Ending::Border | Ending::Failed => None,
-        }
-    }
-}
-
-/// How a session ended, and the damage of its input where that ended it.
+/// Why serving is over, and how many bytes of the input were acted on.
 #[derive(Clone, Copy, Debug, PartialEq, Eq)]
 pub struct Served {
-    pub ended: Ended,
-    pub damage: Option<Damage>,
+    pub outcome: Outcome,
+    pub taken: u64,
 }
 
 /// What one turn of the loop leads to.
@@ -86,217 +46,305 @@ enum Turn {
 /// What was read of the input.
 #[derive(Clone, Copy)]
 enum Fetched {
-    /// A piece, which the decoder has now, and the damage of the stream with it.
-    Piece(Option<Damage>),
+    /// A piece of this many bytes.
+    Piece(usize),
     /// The input is found to have ended.
     End(Ending),
 }
 
-/// Acts on all whole frames that the decoder has, and writes the answers. Answers the status that
-/// the session ended with, where it took an exit.
-fn act_on_frames<T: Tree, K: Sink>(
-    alloc: Global,
-    core: &mut Core,
-    decoder: &mut Decoder,
-    tree: &mut T,
-    output: &mut K,
-    frame: &mut Vec<u8>,
-) -> Result<Option<u8>, Stop>
-    requires ready { IsReady core.old }
-    requires stood { (order : List Event) × StandsFor core.old order }
-    ensures progress { OnOk result ((left0 left : Option (List ℕ)) (start : Told)
-        → Progress core.old decoder.old left0 left start
-        (told (K.given output.old) (T.handed tree.old) (T.faults tree.old))
-        → Progress core.new decoder.new left0 left start
-        (told (K.given output.new) (T.handed tree.new) (T.faults tree.new))) }
-    ensures stopped { OnErr result ((left0 left : Option (List ℕ)) (start : Told)
-        → Progress core.old decoder.old left0 left start
-        (told (K.given output.old) (T.handed tree.old) (T.faults tree.old))
-        → Stopped decoder.new.given_end left0 left start
-        (told (K.given output.new) (T.handed tree.new) (T.faults tree.new))) }
-    ensures quiet { OnOk result (IsQuiet core.new) }
-    ensures free { OnOk result (IsFree core.new) }
-    ensures alive { OnOk result (IsAlive core.new) }
-    ensures status { IfOk result (λ status. status_of core.new ≡ status) }
-    ensures stood { OnOk result ((order : List Event) × StandsFor core.new order) }
-    ensures drained { result ≡ Ok None → HasNoFrame decoder.new.bytes }
-    ensures sound { OnOk result (IsSound decoder.old.bytes → IsSound decoder.new.bytes) }
-    ensures damage { OnOk result ((damage : Damage) → HasDamage decoder.old damage
-        → HasDamage decoder.new damage) }
-    ensures fed { fed decoder.new ≡ fed decoder.old }
-    ensures sink { IsErrOf result Stop.Sink → Rose (K.faults output.old) (K.faults output.new) }
-    ensures same { OnOk result (K.faults output.new ≡ K.faults output.old) }
-{
-    'frames: loop {
-        let body = match decoder.next_body() {
-            Ok(Some(body)) => body,
-            Ok(None) => return Ok(None),
-            Err(NoMemory) => return Err(Stop::NoMemory),
-        };
-        match act(alloc, core, body.as_slice(), tree, output, frame) {
-            Ok(None) => {}
-            Ok(Some(status)) => return Ok(Some(status)),
-            Err(stop) => return Err(stop),
+/// A session that is served from a stream.
+#[derive(Drop)]
+struct Server {
+    responder: Responder,
+    decoder: Decoder,
+}
+
+impl Server {
+    fn new(alloc: Global) -> Server
+        ensures stands { StandsFor result.responder.core [] }
+        ensures ready { IsReady result.responder.core }
+        ensures fresh { result.decoder ≡ record { bytes = []; given_end = 0 } }
+    {
+        Server {
+            responder: Responder::new(alloc),
+            decoder: Decoder::new(alloc),
         }
     }
-}
 
-/// Reads the next piece of the input into `into`, and feeds it to the decoder. `total` counts the
-/// bytes that the decoder was fed.
-fn fetch<S: Source>(
-    input: &mut S,
-    decoder: &mut Decoder,
-    total: &mut u64,
-    into: &mut [u8],
-) -> Result<Fetched, NoMemory>
-    requires total { total.old ≡ fed decoder.old }
-    requires room { 0 < length into.old }
-    requires limit { fed decoder.old + length into.old ≤ STREAM_LIMIT }
-    requires drained { HasNoFrame decoder.old.bytes }
-    requires sound { IsSound decoder.old.bytes }
-    ensures piece { IfOk result (λ fetched. (damage : Option Damage) → fetched ≡ Fetched.Piece damage
-        → Feeds decoder.old decoder.new (S.left input.old) (S.left input.new)) }
-    ensures some { IfOk result (λ fetched. (damage : Option Damage) → fetched ≡ Fetched.Piece damage
-        → fed decoder.old < fed decoder.new) }
-    ensures sound { result ≡ Ok (Fetched.Piece None) → IsSound decoder.new.bytes }
-    ensures damaged { IfOk result (λ fetched. (damage : Damage) → fetched ≡ Fetched.Piece (Some damage)
-        → HasDamage decoder.new damage) }
-    ensures same { IfOk result (λ fetched. (damage : Option Damage) → fetched ≡ Fetched.Piece damage
-        → S.faults input.new ≡ S.faults input.old) }
-    ensures end { IfOk result (λ fetched. (how : Ending) → fetched ≡ Fetched.End how
-        → (decoder.new ≡ decoder.old) × (S.left input.new ≡ S.left input.old)
-        × EndsBy how decoder.old (record {
-          old = S.left input.old;
-          new = S.left input.new;
-          faults_old = S.faults input.old;
-          faults_new = S.faults input.new;
-        })) }
-    ensures lost { OnErr result (Loses decoder.old decoder.new (S.left input.old) (S.left input.new)) }
-    ensures total { total.new ≡ fed decoder.new }
-    ensures within { fed decoder.new ≤ STREAM_LIMIT }
-{
-    match input.read(into) {
-        Got::Bytes(count) => {
-            let fetched = match decoder.feed(into.split_at(count).0) {
-                Ok(()) => Fetched::Piece(None),
-                Err(FeedFault::Damaged(damage)) => Fetched::Piece(Some(damage)),
-                Err(FeedFault::NoMemory) => return Err(NoMemory),
-            };
-            *total += count as u64;
-            Ok(fetched)
+    /// Serves a client until it exits, its input ends, or the session has to stop.
+    fn serve<S: Source, T: Tree, K: Sink>(
+        &mut self,
+        buffer: &mut [u8],
+        input: &mut S,
+        tree: &mut T,
+        output: &mut K,
+    ) -> Served
+        requires room { 0 < length buffer.old }
+        requires stands { StandsFor self.old.responder.core [] }
+        requires ready { IsReady self.old.responder.core }
+        requires fresh { self.old.decoder ≡ record { bytes = []; given_end = 0 } }
+        ensures { Serves
+            (input_changed (S.left input.old) (S.left input.new) (S.course input.old) (S.course input.new)
+            (S.faults input.old) (S.faults input.new))
+            (tree_changed (T.handed tree.old) (T.handed tree.new) (T.faults tree.old) (T.faults tree.new))
+            (changed (K.given output.old) (K.given output.new) (K.faults output.old) (K.faults output.new))
+            result.outcome result.taken }
+    {
+        'turns: loop {
+            match self.take_turn(buffer, input, tree, output) {
+                Ok(Turn::GoesOn) => {}
+                Ok(Turn::Exits(status)) => {
+                    return Served {
+                        outcome: Outcome::Exited {
+                            closed: status == 0,
+                        },
+                        taken: self.decoder.given_end(),
+                    };
+                }
+                Ok(Turn::Ends(ending)) => {
+                    return Served {
+                        outcome: self.finish(ending, output),
+                        taken: self.count(),
+                    };
+                }
+                Err(stop) => {
+                    return Served {
+                        outcome: Outcome::Stopped(stop),
+                        taken: self.decoder.given_end(),
+                    };
+                }
+            }
         }
-        Got::End => Ok(Fetched::End(end_of(decoder, *total))),
-        Got::Failed => Ok(Fetched::End(Ending::Failed)),
-        Got::Quiet => unreachable!(),
     }
-}
 
-/// How an input of `total` bytes ends that has no more.
-fn end_of(decoder: &Decoder, total: u64) -> Ending
-    requires drained { HasNoFrame decoder.now.bytes }
-    requires sound { IsSound decoder.now.bytes }
-    requires total { total ≡ fed decoder.now }
-    ensures { (input : Change) → IsOut decoder.now input.new → EndsBy result decoder.now input }
-{
-    if decoder.at_border() {
-        Ending::Border
-    } else {
-        Ending::Damaged(Damage {
-            place: total,
-            kind: DamageKind::Truncated,
-        })
+    /// One turn of the loop: reads a piece, acts on the frames that are whole now, and writes the answers.
+    fn take_turn<S: Source, T: Tree, K: Sink>(
+        &mut self,
+        buffer: &mut [u8],
+        input: &mut S,
+        tree: &mut T,
+        output: &mut K,
+    ) -> Result<Turn, Stop>
+        requires ready { IsReady self.old.responder.core }
+        requires stood { (order : List Event) × StandsFor self.old.responder.core order }
+        requires room { 0 < length buffer.old }
+        requires drained { HasNoFrame self.old.decoder.bytes }
+        requires sound { IsSound self.old.decoder.bytes }
+        ensures progress { OnOk result ((left0 : Option (List ℕ)) (start : Told)
+            → Progress self.old.responder.core self.old.decoder left0 (S.left input.old) start
+            (told (K.given output.old) (T.handed tree.old) (T.faults tree.old))
+            → Progress self.new.responder.core self.new.decoder left0 (S.left input.new) start
+            (told (K.given output.new) (T.handed tree.new) (T.faults tree.new))) }
+        ensures stopped { OnErr result ((left0 : Option (List ℕ)) (start : Told)
+            → Progress self.old.responder.core self.old.decoder left0 (S.left input.old) start
+            (told (K.given output.old) (T.handed tree.old) (T.faults tree.old))
+            → Stopped self.new.decoder.given_end left0 (S.left input.new) start
+            (told (K.given output.new) (T.handed tree.new) (T.faults tree.new))) }
+        ensures goes_on { result ≡ Ok Turn.GoesOn → MayGoOn self.new.responder.core self.new.decoder
+            (fed self.old.decoder) (S.faults input.old) (S.faults input.new) }
+        ensures exits { IfOk result (λ turn. (status : ℕ) → turn ≡ Turn.Exits status
+            → HasEnded self.new.responder.core (Some status)) }
+        ensures ends { IfOk result (λ turn. (ending : Ending) → turn ≡ Turn.Ends ending
+            → MayEnd self.new.responder.core self.new.decoder ending (S.left input.new)
+            (S.faults input.old) (S.faults input.new)) }
+
+        ensures within { result ≡ Ok Turn.GoesOn → fed self.new.decoder ≤ stream_limit }
+
+        // No further piece is read behind an exit.
+        ensures further { result ≡ Ok Turn.GoesOn → (start : Option Course)
+            → IsAt start (S.course input.old) (fed self.old.decoder)
+            → IsAt start (S.course input.new) (fed self.new.decoder) }
+        ensures in_last { IfOk result (λ turn. (status : ℕ) → turn ≡ Turn.Exits status → (start : Option Course)
+            → IsAt start (S.course input.old) (fed self.old.decoder)
+            → WhereTold (EndsInLast self.new.decoder.given_end) start (S.course input.new)) }
+        ensures stood { OnOk result ((order : List Event) × StandsFor self.new.responder.core order) }
+        ensures sink { IsErrOf result Stop.Sink → Rose (K.faults output.old) (K.faults output.new) }
+        ensures same { OnOk result (K.faults output.new ≡ K.faults output.old) }
+    {
+        let room = (buffer.len() as u64).min(self.decoder.room()) as usize;
+        let into = &mut buffer[..room];
+        match self.fetch(into, input) {
+            Fetched::Piece(count) => self.take_piece(into.split_at(count).0, tree, output),
+            Fetched::End(ending) => Ok(Turn::Ends(ending)),
+        }
     }
-}
 
-/// One turn of the loop: reads a piece, acts on the frames that are whole now, and writes the answers.
-fn take_turn<S: Source, T: Tree, K: Sink>(
-    alloc: Global,
-    core: &mut Core,
-    decoder: &mut Decoder,
-    total: &mut u64,
-    into: &mut [u8],
-    input: &mut S,
-    tree: &mut T,
-    output: &mut K,
-    frame: &mut Vec<u8>,
-) -> Result<Turn, Stop>
-    requires ready { IsReady core.old }
-    requires stood { (order : List Event) × StandsFor core.old order }
-    requires total { total.old ≡ fed decoder.old }
-    requires room { 0 < length into.old }
-    requires limit { fed decoder.old + length into.old ≤ STREAM_LIMIT }
-    requires drained { HasNoFrame decoder.old.bytes }
-    requires sound { IsSound decoder.old.bytes }
-    ensures progress { OnOk result ((left0 : Option (List ℕ)) (start : Told)
-        → Progress core.old decoder.old left0 (S.left input.old) start
-        (told (K.given output.old) (T.handed tree.old) (T.faults tree.old))
-        → Progress core.new decoder.new left0 (S.left input.new) start
-        (told (K.given output.new) (T.handed tree.new) (T.faults tree.new))) }
-    ensures stopped { OnErr result ((left0 : Option (List ℕ)) (start : Told)
-        → Progress core.old decoder.old left0 (S.left input.old) start
-        (told (K.given output.old) (T.handed tree.old) (T.faults tree.old))
-        → Stopped decoder.new.given_end left0 (S.left input.new) start
-        (told (K.given output.new) (T.handed tree.new) (T.faults tree.new))) }
-    ensures goes_on { result ≡ Ok Turn.GoesOn → MayGoOn core.new decoder.new (fed decoder.old)
-        (S.faults input.old) (S.faults input.new) }
-    ensures exits { IfOk result (λ turn. (status : ℕ) → turn ≡ Turn.Exits status
-        → HasEnded core.new (Some status)) }
-    ensures ends { IfOk result (λ turn. (how : Ending) → turn ≡ Turn.Ends how
-        → MayEnd core.new decoder.new how (record {
-          old = S.left input.old;
-          new = S.left input.new;
-          faults_old = S.faults input.old;
-          faults_new = S.faults input.new;
-        })) }
-    ensures stood { OnOk result ((order : List Event) × StandsFor core.new order) }
-    ensures total { total.new ≡ fed decoder.new }
-    ensures within { fed decoder.new ≤ STREAM_LIMIT }
-    ensures sink { IsErrOf result Stop.Sink → Rose (K.faults output.old) (K.faults output.new) }
-    ensures same { OnOk result (K.faults output.new ≡ K.faults output.old) }
-{
-    match fetch(input, decoder, total, into) {
-        Ok(Fetched::Piece(damage)) => match act_on_frames(
-            alloc, core, decoder, tree, output, frame,
-        ) {
-            Ok(Some(status)) => Ok(Turn::Exits(status)),
-            Ok(None) => match damage {
-                None => Ok(Turn::GoesOn),
-                Some(damage) => Ok(Turn::Ends(Ending::Damaged(damage))),
+    /// How many bytes of the input were read.
+    fn count(&self) -> u64
+        ensures { result ≡ fed self.now.decoder }
+    {
+        STREAM_LIMIT - self.decoder.room()
+    }
+
+    /// Reads the next piece of the input into the front of `into`.
+    fn fetch<S: Source>(&self, into: &mut [u8], input: &mut S) -> Fetched
+        requires full { length into.old ≡ 0 → fed self.now.decoder ≡ stream_limit }
+        requires drained { HasNoFrame self.now.decoder.bytes }
+        requires sound { IsSound self.now.decoder.bytes }
+        ensures piece { (count : ℕ) → result ≡ Fetched.Piece count
+            → Fetches (S.left input.old) (S.left input.new) (S.course input.old) (S.course input.new) into.new count }
+        ensures same { (count : ℕ) → result ≡ Fetched.Piece count → S.faults input.new ≡ S.faults input.old }
+        ensures end { (ending : Ending) → result ≡ Fetched.End ending → (S.left input.new ≡ S.left input.old)
+            × EndsBy ending self.now.decoder (S.left input.new) (S.faults input.old) (S.faults input.new) }
+    {
+        if into.is_empty() {
+            return Fetched::End(self.end());
+        }
+        match input.read(into) {
+            Got::Bytes(count) => Fetched::Piece(count),
+            Got::End => Fetched::End(self.end()),
+            Got::Failed => Fetched::End(Ending::Failed),
+            Got::Quiet => unreachable!(),
+        }
+    }
+
+    /// How an input ends that has no more.
+    fn end(&self) -> Ending
+        requires drained { HasNoFrame self.now.decoder.bytes }
+        requires sound { IsSound self.now.decoder.bytes }
+        ensures { (left : Option (List ℕ)) (faults_old faults_new : ℕ) → IsOut self.now.decoder left
+            → EndsBy result self.now.decoder left faults_old faults_new }
+    {
+        if self.decoder.at_border() {
+            Ending::Border
+        } else {
+            Ending::Damaged(Damage {
+                place: self.count(),
+                kind: DamageKind::Truncated,
+            })
+        }
+    }
+
+    /// Acts on the frames that are whole with this piece, and writes the answers.
+    fn take_piece<T: Tree, K: Sink>(
+        &mut self,
+        piece: &[u8],
+        tree: &mut T,
+        output: &mut K,
+    ) -> Result<Turn, Stop>
+        requires ready { IsReady self.old.responder.core }
+        requires stood { (order : List Event) × StandsFor self.old.responder.core order }
+        requires some { 0 < length piece.now }
+        requires limit { fed self.old.decoder + length piece.now ≤ stream_limit }
+        requires drained { HasNoFrame self.old.decoder.bytes }
+        ensures progress { OnOk result ((left0 left left_new : Option (List ℕ)) (start : Told)
+            → Progress self.old.responder.core self.old.decoder left0 left start
+            (told (K.given output.old) (T.handed tree.old) (T.faults tree.old))
+            → Takes left left_new piece.now
+            → Progress self.new.responder.core self.new.decoder left0 left_new start
+            (told (K.given output.new) (T.handed tree.new) (T.faults tree.new))) }
+        ensures stopped { OnErr result ((left0 left left_new : Option (List ℕ)) (start : Told)
+            → Progress self.old.responder.core self.old.decoder left0 left start
+            (told (K.given output.old) (T.handed tree.old) (T.faults tree.old))
+            → Takes left left_new piece.now
+            → Stopped self.new.decoder.given_end left0 left_new start
+            (told (K.given output.new) (T.handed tree.new) (T.faults tree.new))) }
+        ensures goes_on { result ≡ Ok Turn.GoesOn → (faults : ℕ)
+            → MayGoOn self.new.responder.core self.new.decoder (fed self.old.decoder) faults faults }
+        ensures exits { IfOk result (λ turn. (status : ℕ) → turn ≡ Turn.Exits status
+            → HasEnded self.new.responder.core (Some status)) }
+        ensures ends { IfOk result (λ turn. (ending : Ending) → turn ≡ Turn.Ends ending → (left : Option (List ℕ))
+            (faults_old faults_new : ℕ)
+            → MayEnd self.new.responder.core self.new.decoder ending left faults_old faults_new) }
+        ensures count { OnOk result (fed self.new.decoder ≡ fed self.old.decoder + length piece.now) }
+        ensures within { result ≡ Ok Turn.GoesOn → fed self.new.decoder ≤ stream_limit }
+        ensures passes { IfOk result (λ turn. (status : ℕ) → turn ≡ Turn.Exits status
+            → fed self.old.decoder < self.new.decoder.given_end) }
+        ensures stood { OnOk result ((order : List Event) × StandsFor self.new.responder.core order) }
+        ensures sink { IsErrOf result Stop.Sink → Rose (K.faults output.old) (K.faults output.new) }
+        ensures same { OnOk result (K.faults output.new ≡ K.faults output.old) }
+    {
+        match self.feed(piece) {
+            Ok(damage) => match self.act_on_frames(tree, output) {
+                Ok(Some(status)) => Ok(Turn::Exits(status)),
+                Ok(None) => match damage {
+                    None => Ok(Turn::GoesOn),
+                    Some(damage) => Ok(Turn::Ends(Ending::Damaged(damage))),
+                },
+                Err(stop) => Err(stop),
             },
-            Err(stop) => Err(stop),
-        },
-        Ok(Fetched::End(how)) => Ok(Turn::Ends(how)),
-        Err(NoMemory) => Err(Stop::NoMemory),
+            Err(NoMemory) => Err(Stop::NoMemory),
+        }
     }
-}
 
-/// Ends the session as its input ended.
-fn finish<K: Sink>(
-    alloc: Global,
-    core: &mut Core,
-    how: InputEnd,
-    output: &mut K,
-    frame: &mut Vec<u8>,
-) -> u8
-    requires ready { IsReady core.old }
-    requires stood { (order : List Event) × StandsFor core.old order }
-    ensures status { Finishes core.old core.new how (K.given output.old) (K.given output.new) result }
-    ensures sink { result ≡ 4 → Rose (K.faults output.old) (K.faults output.new) }
-{
-    match act_on_end(alloc, core, how, output, frame) {
-        Ok(()) => end_status(how),
-        Err(stop) => stop.status(),
+    /// Feeds a piece to the decoder. Answers the damage that the stream has with it.
+    fn feed(&mut self, piece: &[u8]) -> Result<Option<Damage>, NoMemory>
+        requires { fed self.old.decoder + length piece.now ≤ stream_limit }
+        ensures core { self.new.responder.core ≡ self.old.responder.core }
+        ensures fed { OnOk result (self.new.decoder ≡ record self.old.decoder {
+          bytes = self.old.decoder.bytes ++ piece.now;
+        }) }
+        ensures sound { result ≡ Ok None → IsSound self.new.decoder.bytes }
+        ensures damaged { IfOk result (λ found. IfSome found (HasDamage self.new.decoder)) }
+        ensures lost { OnErr result (self.new.decoder ≡ self.old.decoder) }
+    {
+        match self.decoder.feed(piece) {
+            Ok(()) => Ok(None),
+            Err(FeedFault::Damaged(damage)) => Ok(Some(damage)),
+            Err(FeedFault::NoMemory) => Err(NoMemory),
+        }
     }
-}
 
-/// The status of a session whose input ended so.
-fn end_status(how: InputEnd) -> u8
-    ensures { result ≡ end_status how }
-{
-    match how {
-        InputEnd::Border => 1,
-        InputEnd::Damaged => 2,
-        InputEnd::Failed => 3,
+    /// Acts on all whole frames that the decoder has, and writes the answers. Answers the status that
+    /// the session ended with, where it took an exit.
+    fn act_on_frames<T: Tree, K: Sink>(
+        &mut self,
+        tree: &mut T,
+        output: &mut K,
+    ) -> Result<Option<u8>, Stop>
+        requires ready { IsReady self.old.responder.core }
+        requires stood { (order : List Event) × StandsFor self.old.responder.core order }
+        ensures progress { OnOk result ((left0 left : Option (List ℕ)) (start : Told)
+            → Progress self.old.responder.core self.old.decoder left0 left start
+            (told (K.given output.old) (T.handed tree.old) (T.faults tree.old))
+            → Progress self.new.responder.core self.new.decoder left0 left start
+            (told (K.given output.new) (T.handed tree.new) (T.faults tree.new))) }
+        ensures stopped { OnErr result ((left0 left : Option (List ℕ)) (start : Told)
+            → Progress self.old.responder.core self.old.decoder left0 left start
+            (told (K.given output.old) (T.handed tree.old) (T.faults tree.old))
+            → Stopped self.new.decoder.given_end left0 left start
+            (told (K.given output.new) (T.handed tree.new) (T.faults tree.new))) }
+        ensures quiet { OnOk result (IsQuiet self.new.responder.core) }
+        ensures free { OnOk result (IsFree self.new.responder.core) }
+        ensures alive { OnOk result (IsAlive self.new.responder.core) }
+        ensures status { IfOk result (λ status. status_of self.new.responder.core ≡ status) }
+        ensures stood { OnOk result ((order : List Event) × StandsFor self.new.responder.core order) }
+        ensures drained { result ≡ Ok None → HasNoFrame self.new.decoder.bytes }
+        ensures passes { IfOk result (λ found. IsSome found → Passes self.old.decoder self.new.decoder) }
+        ensures sound { OnOk result (IsSound self.old.decoder.bytes → IsSound self.new.decoder.bytes) }
+        ensures damage { OnOk result ((damage : Damage) → HasDamage self.old.decoder damage
+            → HasDamage self.new.decoder damage) }
+        ensures fed { fed self.new.decoder ≡ fed self.old.decoder }
+        ensures sink { IsErrOf result Stop.Sink → Rose (K.faults output.old) (K.faults output.new) }
+        ensures same { OnOk result (K.faults output.new ≡ K.faults output.old) }
+    {
+        'frames: loop {
+            let body = match self.decoder.next_body() {
+                Ok(Some(body)) => body,
+                Ok(None) => return Ok(None),
+                Err(NoMemory) => return Err(Stop::NoMemory),
+            };
+            match self.responder.act(body.as_slice(), tree, output) {
+                Ok(None) => {}
+                Ok(Some(status)) => return Ok(Some(status)),
+                Err(stop) => return Err(stop),
+            }
+        }
+    }
+
+    /// Tells the session how its input ended, and writes what it answers then.
+    fn finish<K: Sink>(&mut self, ending: Ending, output: &mut K) -> Outcome
+        requires ready { IsReady self.old.responder.core }
+        requires stood { (order : List Event) × StandsFor self.old.responder.core order }
+        ensures finishes { Finishes self.old.responder.core self.new.responder.core ending
+            (K.given output.old) (K.given output.new) result }
+        ensures sink { result ≡ Outcome.Stopped Stop.Sink → Rose (K.faults output.old) (K.faults output.new) }
+        ensures decoder { self.new.decoder ≡ self.old.decoder }
+    {
+        match self.responder.act_on_end(ending.how(), output) {
+            Ok(()) => Outcome::InputEnded(ending),
+            Err(stop) => Outcome::Stopped(stop),
+        }
     }
 }
 
@@ -307,113 +355,18 @@ pub fn serve<S: Source, T: Tree, K: Sink>(
     tree: &mut T,
     output: &mut K,
 ) -> Served
-    ensures session { Session
-        (record {
-          old = S.left input.old;
-          new = S.left input.new;
-          faults_old = S.faults input.old;
-          faults_new = S.faults input.new;
-        })
-        (record {
-          old = T.handed tree.old;
-          new = T.handed tree.new;
-          faults_old = T.faults tree.old;
-          faults_new = T.faults tree.new;
-        })
-        (record {
-          old = K.given output.old;
-          new = K.given output.new;
-          faults_old = K.faults output.old;
-          faults_new = K.faults output.new;
-        })
-        result.ended.status result.ended.taken result.damage }
-    ensures sink { result.ended.status ≡ 4 → Rose (K.faults output.old) (K.faults output.new) }
+    ensures { Serves
+        (input_changed (S.left input.old) (S.left input.new) (S.course input.old) (S.course input.new)
+        (S.faults input.old) (S.faults input.new))
+        (tree_changed (T.handed tree.old) (T.handed tree.new) (T.faults tree.old) (T.faults tree.new))
+        (changed (K.given output.old) (K.given output.new) (K.faults output.old) (K.faults output.new))
+        result.outcome result.taken }
 {
     match vec![in alloc; 0u8; PIECE] {
-        Ok(mut buffer) => serve_with(alloc, buffer.as_mut_slice(), input, tree, output),
-        Err(_) => outcome(5, 0, None),
-    }
-}
-
-fn outcome(status: u8, taken: u64, damage: Option<Damage>) -> Served
-    ensures { result ≡ record { ended = record { status = status; taken = taken }; damage = damage } }
-{
-    Served {
-        ended: Ended { status, taken },
-        damage,
-    }
-}
-
-fn serve_with<S: Source, T: Tree, K: Sink>(
-    alloc: Global,
-    buffer: &mut [u8],
-    input: &mut S,
-    tree: &mut T,
-    output: &mut K,
-) -> Served
-    requires { 0 < length buffer.old }
-    ensures session { Session
-        (record {
-          old = S.left input.old;
-          new = S.left input.new;
-          faults_old = S.faults input.old;
-          faults_new = S.faults input.new;
-        })
-        (record {
-          old = T.handed tree.old;
-          new = T.handed tree.new;
-          faults_old = T.faults tree.old;
-          faults_new = T.faults tree.new;
-        })
-        (record {
-          old = K.given output.old;
-          new = K.given output.new;
-          faults_old = K.faults output.old;
-          faults_new = K.faults output.new;
-        })
-        result.ended.status result.ended.taken result.damage }
-    ensures sink { result.ended.status ≡ 4 → Rose (K.faults output.old) (K.faults output.new) }
-{
-    let mut core = Core::new(alloc);
-    let mut decoder = Decoder::new(alloc);
-    let mut frame = Vec::new(alloc);
-    let mut total = 0u64;
-    'turns: loop {
-        let limit = STREAM_LIMIT - total;
-        if limit == 0 {
-            let ending = end_of(&decoder, total);
-            let how = ending.how();
-            let status = finish(alloc, &mut core, how, output, &mut frame);
-            return outcome(status, total, ending.damage());
-        }
-        let room = (buffer.len() as u64).min(limit) as usize;
-        let into = &mut buffer[..room];
-        match take_turn(
-            alloc,
-            &mut core,
-            &mut decoder,
-            &mut total,
-            into,
-            input,
-            tree,
-            output,
-            &mut frame,
-        ) {
-            Ok(Turn::GoesOn) => {}
-            Ok(Turn::Exits(status)) => {
-                let taken = decoder.given_end();
-                return outcome(status, taken, None);
-            }
-            Ok(Turn::Ends(ending)) => {
-                let how = ending.how();
-                let status = finish(alloc, &mut core, how, output, &mut frame);
-                return outcome(status, total, ending.damage());
-            }
-            Err(stop) => {
-                let taken = decoder.given_end();
-                let status = stop.status();
-                return outcome(status, taken, None);
-            }
-        }
+        Ok(mut buffer) => Server::new(alloc).serve(buffer.as_mut_slice(), input, tree, output),
+        Err(_) => Served {
+            outcome: Outcome::Stopped(Stop::NoMemory),
+            taken: 0,
+        },
     }
 }

@@ -30,18 +30,3 @@ impl From<AllocError> for Stop {
         Stop::NoMemory
     }
 }
-
-impl Stop {
-    ghost use Rattle.std.specs.Prelude.{◌≡◌};
-    ghost use Rattle.bsp_cli.specs.Writing.{status_of_stop};
-
-    /// The status that the program then ends with.
-    pub fn status(self) -> u8
-        ensures { result ≡ status_of_stop self }
-    {
-        match self {
-            Stop::Sink => 4,
-            Stop::NoMemory => 5,
-        }
-    }
-}

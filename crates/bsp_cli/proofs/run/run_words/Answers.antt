@@ -1,14 +1,16 @@
-use Rattle.bsp_cli.proofs.RunLaws.{noted_run, noted_input, noted_sink}
+use Rattle.std.proofs.Common.{refl}
+use Rattle.bsp_cli.proofs.RunLaws.{served, read_failed, sink_failed, served_known, usage_not_read, usage_sink}
+use Rattle.bsp_cli.proofs.WritingLaws.{on_ok}
 use Rattle.bsp_cli.proofs.run.run_words.Goals as goal
 
 pub returns-in-Ok-Serve-clause-session : goal.returns-in-Ok-Serve-clause-session
-returns-in-Ok-Serve-clause-session g c = λ folder asked.
-    rw c.note.ensures.taken (noted_run _ _ _ _ c.serve-served.result.damage _ c.serve-served.result.ended.status c.note.result.status c.note.ensures.noted c.serve-served.ensures.session)
+returns-in-Ok-Serve-clause-session g c = on_ok _ _ (served _ _ _ _ c.serve-served.result.outcome c.serve-served.result.taken _ c.serve-served.ensures c.note.ensures)
+
+pub returns-in-Ok-Serve-clause-usage : goal.returns-in-Ok-Serve-clause-usage
+returns-in-Ok-Serve-clause-usage g c = λ six. absurd (served_known _ _ _ _ c.serve-served.result.outcome c.serve-served.result.taken _ c.serve-served.ensures c.note.ensures six)
 
 pub returns-in-Ok-Serve-clause-input : goal.returns-in-Ok-Serve-clause-input
-returns-in-Ok-Serve-clause-input g c = λ three.
-    noted_input _ _ _ _ c.serve-served.result.ended.status c.note.result.status _ _ _ c.serve-served.result.ended.taken c.serve-served.result.damage c.note.ensures.noted c.serve-served.ensures.session three
+returns-in-Ok-Serve-clause-input g c = λ three. read_failed _ _ _ _ c.serve-served.result.outcome c.serve-served.result.taken _ c.serve-served.ensures c.note.ensures three
 
 pub returns-in-Ok-Serve-clause-sink : goal.returns-in-Ok-Serve-clause-sink
-returns-in-Ok-Serve-clause-sink g c = λ four.
-    noted_sink _ _ _ _ c.serve-served.result.ended.status c.note.result.status _ _ c.serve-served.result.damage c.note.ensures.noted c.serve-served.ensures.sink four
+returns-in-Ok-Serve-clause-sink g c = λ four. sink_failed _ _ _ _ _ _ c.note.ensures c.serve-served.ensures.sink four

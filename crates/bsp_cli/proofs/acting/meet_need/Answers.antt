@@ -1,9 +1,0 @@
-use Rattle.std.proofs.Common.{[]}
-use Rattle.bsp_cli.proofs.WritingLaws.{on_ok_then, steps_kept, steps_none}
-use Rattle.bsp_cli.proofs.acting.meet_need.Goals as goal
-
-pub returns-in-Some-Tree-clause-steps : goal.returns-in-Some-Tree-clause-steps
-returns-in-Some-Tree-clause-steps g c = on_ok_then _ _ _ (steps_kept c.args.core.now c.next_need.new.self [] _ _ c.in-Some-Tree.ensures.keeps c.ask_tree.new.core) c.ask_tree.ensures.steps
-
-pub returns-in-None-clause-steps : goal.returns-in-None-clause-steps
-returns-in-None-clause-steps g c = steps_none c.args.core.now c.next_need.new.self _ c.in-None.ensures.keeps

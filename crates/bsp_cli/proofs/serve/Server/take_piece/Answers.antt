@@ -1,0 +1,46 @@
+use Rattle.std.proofs.Common.{◌≡◌, ◌+◌, ◌∙◌, length, refl, arith}
+use Rattle.bsp_cli.proofs.CourseLaws.{fed_more, passes_fed}
+use Rattle.bsp_cli.specs.Progress.{fed}
+use Rattle.bsp_cli.proofs.ProgressLaws.{progress_feeds, stopped_feeding}
+use Rattle.bsp_cli.proofs.serve.Server.take_piece.Goals as goal
+
+pub returns-in-Ok-Some-clause-progress : goal.returns-in-Ok-Some-clause-progress
+returns-in-Ok-Some-clause-progress g c = λ left0 left left_new start so taken.
+    c.in-Ok-Some.ensures.progress left0 left_new start
+    (progress_feeds c.args.self.now.responder.core c.feed.new.self.responder.core c.args.self.now.decoder c.feed.new.self.decoder c.args.piece.now left0 left left_new start _ c.feed.ensures.core c.in-Ok.ensures.fed taken so)
+
+pub returns-in-None-clause-progress : goal.returns-in-None-clause-progress
+returns-in-None-clause-progress g c = λ left0 left left_new start so taken.
+    c.in-Ok-None.ensures.progress left0 left_new start
+    (progress_feeds c.args.self.now.responder.core c.feed.new.self.responder.core c.args.self.now.decoder c.feed.new.self.decoder c.args.piece.now left0 left left_new start _ c.feed.ensures.core c.in-Ok.ensures.fed taken so)
+
+pub returns-in-Some-clause-progress : goal.returns-in-Some-clause-progress
+returns-in-Some-clause-progress g c = λ left0 left left_new start so taken.
+    c.in-Ok-None.ensures.progress left0 left_new start
+    (progress_feeds c.args.self.now.responder.core c.feed.new.self.responder.core c.args.self.now.decoder c.feed.new.self.decoder c.args.piece.now left0 left left_new start _ c.feed.ensures.core c.in-Ok.ensures.fed taken so)
+
+pub returns-in-Err-act_on_frames-clause-stopped : goal.returns-in-Err-act_on_frames-clause-stopped
+returns-in-Err-act_on_frames-clause-stopped g c = λ left0 left left_new start so taken.
+    c.in-Err-act_on_frames.ensures.stopped left0 left_new start
+    (progress_feeds c.args.self.now.responder.core c.feed.new.self.responder.core c.args.self.now.decoder c.feed.new.self.decoder c.args.piece.now left0 left left_new start _ c.feed.ensures.core c.in-Ok.ensures.fed taken so)
+
+pub returns-in-Err-clause-stopped : goal.returns-in-Err-clause-stopped
+returns-in-Err-clause-stopped g c = λ left0 left left_new start so taken.
+    stopped_feeding c.args.self.now.responder.core c.args.self.now.decoder c.feed.new.self.decoder c.args.piece.now left0 left left_new start _ c.in-Err.ensures.lost taken so
+
+pub returns-in-Ok-Some-clause-count : goal.returns-in-Ok-Some-clause-count
+returns-in-Ok-Some-clause-count g c = c.act_on_frames.ensures.fed ∙ fed_more _ _ _ c.in-Ok.ensures.fed
+
+pub returns-in-None-clause-count : goal.returns-in-None-clause-count
+returns-in-None-clause-count g c = c.act_on_frames.ensures.fed ∙ fed_more _ _ _ c.in-Ok.ensures.fed
+
+pub returns-in-Some-clause-count : goal.returns-in-Some-clause-count
+returns-in-Some-clause-count g c = c.act_on_frames.ensures.fed ∙ fed_more _ _ _ c.in-Ok.ensures.fed
+
+pub returns-in-Ok-Some-clause-passes : goal.returns-in-Ok-Some-clause-passes
+returns-in-Ok-Some-clause-passes g c = λ status same. passes_fed c.args.self.now.decoder c.feed.new.self.decoder c.act_on_frames.new.self.decoder c.args.piece.now c.in-Ok.ensures.fed c.requires.drained ((rw c.in-Ok-Some.field-0-is at c.in-Ok-Some.ensures.passes) refl)
+
+pub returns-in-None-clause-within : goal.returns-in-None-clause-within
+returns-in-None-clause-within g c = λ same.
+    let count : fed c.act_on_frames.new.self.decoder ≡ fed c.args.self.now.decoder + length c.args.piece.now = c.act_on_frames.ensures.fed ∙ fed_more _ _ _ c.in-Ok.ensures.fed in
+    omega (arith, count, c.requires.limit)

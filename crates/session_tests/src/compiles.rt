@@ -1,0 +1,167 @@
+use crate::support::{Changes, Files, expect_session, tree};
+use std::alloc::Global;
+use std::test::Fail;
+
+pub const APP: &[u8] =
+    b"{\"version\":1,\"targets\":[{\"name\":\"app\",\"kind\":\"application\",\"modules\":[\"A.Mod\"],\"main\":\"A\"}]}";
+
+const APP_ON_LIB: &[u8] =
+    b"{\"version\":1,\"targets\":[{\"name\":\"lib\",\"kind\":\"library\",\"modules\":[\"B.Mod\"]},{\"name\":\"app\",\"kind\":\"application\",\"modules\":[\"A.Mod\"],\"dependencies\":[\"lib\"],\"main\":\"A\"}]}";
+
+const OPEN_COMMENT: &[u8] = b"MODULE A; (* x";
+
+const CLEAN: &[u8] = b"MODULE A; END A.";
+
+const COMPILE_2: &[u8] =
+    b"{\"jsonrpc\":\"2.0\",\"id\":2,\"method\":\"buildTarget/compile\",\"params\":{\"targets\":[{\"uri\":\"file:///w/?id=app\"}]}}";
+
+const COMPILE_3: &[u8] =
+    b"{\"jsonrpc\":\"2.0\",\"id\":3,\"method\":\"buildTarget/compile\",\"params\":{\"targets\":[{\"uri\":\"file:///w/?id=app\"}],\"originId\":\"o\"}}";
+
+const COMPILE_ZZZ: &[u8] =
+    b"{\"jsonrpc\":\"2.0\",\"id\":2,\"method\":\"buildTarget/compile\",\"params\":{\"targets\":[{\"uri\":\"file:///w/?id=zzz\"}]}}";
+
+const COMPILE_NONE: &[u8] =
+    b"{\"jsonrpc\":\"2.0\",\"id\":3,\"method\":\"buildTarget/compile\",\"params\":{\"targets\":[]}}";
+
+const OPEN_COMMENT_SHOWN: &[u8] =
+    b"{\"jsonrpc\":\"2.0\",\"method\":\"build/publishDiagnostics\",\"params\":{\"buildTarget\":{\"uri\":\"file:///w/?id=app\"},\"diagnostics\":[{\"code\":\"openComment\",\"message\":\"comment is not closed\",\"range\":{\"end\":{\"character\":12,\"line\":0},\"start\":{\"character\":10,\"line\":0}},\"severity\":1,\"source\":\"oberon\"}],\"reset\":true,\"textDocument\":{\"uri\":\"file:///w/A.Mod\"}}}";
+
+const ABSENT_SHOWN: &[u8] =
+    b"{\"jsonrpc\":\"2.0\",\"method\":\"build/publishDiagnostics\",\"params\":{\"buildTarget\":{\"uri\":\"file:///w/?id=app\"},\"diagnostics\":[{\"code\":\"documentAbsent\",\"message\":\"document is absent\",\"range\":{\"end\":{\"character\":0,\"line\":0},\"start\":{\"character\":0,\"line\":0}},\"severity\":1,\"source\":\"oberon\"}],\"reset\":true,\"textDocument\":{\"uri\":\"file:///w/A.Mod\"}}}";
+
+const BAD_TOKEN_SHOWN: &[u8] =
+    b"{\"jsonrpc\":\"2.0\",\"method\":\"build/publishDiagnostics\",\"params\":{\"buildTarget\":{\"uri\":\"file:///w/?id=app\"},\"diagnostics\":[{\"code\":\"badToken\",\"message\":\"unexpected symbol\",\"range\":{\"end\":{\"character\":19,\"line\":0},\"start\":{\"character\":18,\"line\":0}},\"severity\":1,\"source\":\"oberon\"}],\"reset\":true,\"textDocument\":{\"uri\":\"file:///w/A.Mod\"}}}";
+
+const LIB_SHOWN: &[u8] =
+    b"{\"jsonrpc\":\"2.0\",\"method\":\"build/publishDiagnostics\",\"params\":{\"buildTarget\":{\"uri\":\"file:///w/?id=lib\"},\"diagnostics\":[{\"code\":\"documentAbsent\",\"message\":\"document is absent\",\"range\":{\"end\":{\"character\":0,\"line\":0},\"start\":{\"character\":0,\"line\":0}},\"severity\":1,\"source\":\"oberon\"}],\"reset\":true,\"textDocument\":{\"uri\":\"file:///w/B.Mod\"}}}";
+
+const CLEARED: &[u8] =
+    b"{\"jsonrpc\":\"2.0\",\"method\":\"build/publishDiagnostics\",\"params\":{\"buildTarget\":{\"uri\":\"file:///w/?id=app\"},\"diagnostics\":[],\"originId\":\"o\",\"reset\":true,\"textDocument\":{\"uri\":\"file:///w/A.Mod\"}}}";
+
+const FAILED_2: &[u8] = b"{\"id\":2,\"jsonrpc\":\"2.0\",\"result\":{\"statusCode\":2}}";
+
+const FAILED_3: &[u8] =
+    b"{\"id\":3,\"jsonrpc\":\"2.0\",\"result\":{\"originId\":\"o\",\"statusCode\":2}}";
+
+const PASSED_2: &[u8] = b"{\"id\":2,\"jsonrpc\":\"2.0\",\"result\":{\"statusCode\":1}}";
+
+const PASSED_3: &[u8] =
+    b"{\"id\":3,\"jsonrpc\":\"2.0\",\"result\":{\"originId\":\"o\",\"statusCode\":1}}";
+
+const PASSED_NONE: &[u8] = b"{\"id\":3,\"jsonrpc\":\"2.0\",\"result\":{\"statusCode\":1}}";
+
+const UNKNOWN_TARGET: &[u8] =
+    b"{\"error\":{\"code\":-32602,\"message\":\"invalid params: targets[0].uri\"},\"id\":2,\"jsonrpc\":\"2.0\"}";
+
+const UNREADABLE_2: &[u8] =
+    b"{\"error\":{\"code\":-32603,\"message\":\"sources unreadable\"},\"id\":2,\"jsonrpc\":\"2.0\"}";
+
+#[test]
+fn compiles(rt: HostRuntime) -> Result<(), Fail> {
+    let alloc = rt.alloc();
+    let app: (&[u8], &[u8]) = (b"oberon-build.json", APP);
+    let both: (&[u8], &[u8]) = (b"oberon-build.json", APP_ON_LIB);
+    let cases: [(Files, Changes, &[u64], &[&[u8]], &[&[u8]]); 7] = [
+        // What was found is shown until it is mended.
+        (
+            &[app, (b"A.Mod", OPEN_COMMENT)],
+            &[(3, b"A.Mod", CLEAN)],
+            &[],
+            &[COMPILE_2, COMPILE_3],
+            &[OPEN_COMMENT_SHOWN, FAILED_2, CLEARED, PASSED_3],
+        ),
+        // What is shown already isn't published again.
+        (
+            &[app, (b"A.Mod", OPEN_COMMENT)],
+            &[],
+            &[],
+            &[COMPILE_2, COMPILE_3],
+            &[OPEN_COMMENT_SHOWN, FAILED_2, FAILED_3],
+        ),
+        (&[app], &[], &[], &[COMPILE_2], &[ABSENT_SHOWN, FAILED_2]),
+        (
+            &[app, (b"A.Mod", b"MODULE A; BEGIN x = 1 END A.")],
+            &[],
+            &[],
+            &[COMPILE_2],
+            &[BAD_TOKEN_SHOWN, FAILED_2],
+        ),
+        // A target is compiled with all that it depends on, in the order of the file.
+        (
+            &[both, (b"A.Mod", OPEN_COMMENT)],
+            &[],
+            &[],
+            &[COMPILE_2],
+            &[LIB_SHOWN, OPEN_COMMENT_SHOWN, FAILED_2],
+        ),
+        (
+            &[app, (b"A.Mod", CLEAN)],
+            &[],
+            &[],
+            &[COMPILE_ZZZ, COMPILE_NONE, COMPILE_2],
+            &[UNKNOWN_TARGET, PASSED_NONE, PASSED_2],
+        ),
+        // The session goes on behind a tree that failed.
+        (
+            &[app, (b"A.Mod", CLEAN)],
+            &[],
+            &[2],
+            &[COMPILE_2, COMPILE_3],
+            &[UNREADABLE_2, PASSED_3],
+        ),
+    ];
+    for (files, changes, failing, requests, answers) in cases {
+        let mut tree = tree(alloc, files, changes, failing)?;
+        expect_session(&rt, &mut tree, requests, answers)?;
+    }
+    Ok(())
+}
+
+const PIECE_FRONT: &[u8] =
+    b"{\"jsonrpc\":\"2.0\",\"method\":\"build/publishDiagnostics\",\"params\":{\"buildTarget\":{\"uri\":\"file:///w/?id=app\"},\"diagnostics\":[";
+
+const PIECE_BACK: &[u8] = b",\"textDocument\":{\"uri\":\"file:///w/A.Mod\"}}}";
+
+/// The publication of the bad characters of these numbers, which stand at every second place from 10 on.
+fn piece(alloc: Global, from: u32, to: u32, reset: bool) -> Result<Vec<u8>, Fail> {
+    let mut bytes = Vec::from_slice(alloc, PIECE_FRONT)?;
+    for number in from..to {
+        if number > from {
+            bytes.push(b',')?;
+        }
+        let start = 10 + 2 * u64::from(number);
+        let item = format!(in alloc;
+            "{{\"code\":\"badCharacter\",\"message\":\"bad character\",\"range\":{{\"end\":{{\"character\":{},\"line\":0}},\"start\":{{\"character\":{},\"line\":0}}}},\"severity\":1,\"source\":\"oberon\"}}",
+            start + 1,
+            start
+        )?;
+        bytes.extend_from_slice(item.as_bytes())?;
+    }
+    let flag = format!(in alloc; "],\"reset\":{}", reset)?;
+    bytes.extend_from_slice(flag.as_bytes())?;
+    bytes.extend_from_slice(PIECE_BACK)?;
+    Ok(bytes)
+}
+
+#[test]
+fn publishes_a_long_list_in_pieces(rt: HostRuntime) -> Result<(), Fail> {
+    let alloc = rt.alloc();
+    let mut text = Vec::from_slice(alloc, b"MODULE A; ")?;
+    for _ in 0..250 {
+        text.extend_from_slice(b"$ ")?;
+    }
+    text.extend_from_slice(b"END A.")?;
+    let files: [(&[u8], &[u8]); 2] = [(b"oberon-build.json", APP), (b"A.Mod", text.as_slice())];
+    let mut tree = tree(alloc, &files, &[], &[])?;
+    let first = piece(alloc, 0, 100, true)?;
+    let second = piece(alloc, 100, 200, false)?;
+    let third = piece(alloc, 200, 250, false)?;
+    let answers: [&[u8]; 4] = [
+        first.as_slice(),
+        second.as_slice(),
+        third.as_slice(),
+        FAILED_2,
+    ];
+    expect_session(&rt, &mut tree, &[COMPILE_2], &answers)
+}

@@ -1,0 +1,14 @@
+//! The rows of whole sessions, over a source, a tree and sinks in memory.
+//!
+//! It stands on `bsp_cli` and `bsp_edge`, and has no code of its own: a crate with tests is proved twice, so these stand
+//! above the crate that they are of. Begin with `support.rt`, which runs one row, and with `rows.rt`.
+#![tactic(auto)]
+
+#[cfg(test)]
+mod compiles;
+#[cfg(test)]
+mod questions;
+#[cfg(test)]
+mod rows;
+#[cfg(test)]
+mod support;
