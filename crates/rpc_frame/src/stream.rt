@@ -4,10 +4,10 @@ ghost use Rattle.rpc_frame.specs.Damages.{HasDamage, IfDamaged};
 ghost use Rattle.rpc_frame.specs.Frames.{BeginsWith, HasNoFrame, IsBorder, IsBroken, IsSound};
 ghost use Rattle.rpc_frame.specs.Limits.{content_limit, stream_limit};
 
+use crate::STREAM_LIMIT;
 use crate::damage::{Damage, FeedFault};
 use crate::reading::{Mark, Reading};
 use crate::scan::append;
-use crate::STREAM_LIMIT;
 use ob_text::NoMemory;
 use std::alloc::Global;
 use std::collections::VecDeque;
