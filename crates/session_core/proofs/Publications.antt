@@ -53,17 +53,17 @@ module _ (id : Id) (build : Build) (entries : Entries) (base : Base) (status : O
           lawful = record {
             each = (
               allowed_publication (after past) id build entries o.requests_are method params
-              (record {
-                findings = findings;
-                clean = clean;
-                done = findings;
-                among = All-contains_itself findings;
-                published = published;
-                publishes = subst (λ t. PublishesSome t build.origin findings published) (sym g.start) publishes;
-                rest = rest;
-                next = subst (λ d. published ≡ d ++ m ∷ rest) (sym since) whole;
-              })
-              framed,
+                  (record {
+                    findings = findings;
+                    clean = clean;
+                    done = findings;
+                    among = All-contains_itself findings;
+                    published = published;
+                    publishes = subst (λ t. PublishesSome t build.origin findings published) (sym g.start) publishes;
+                    rest = rest;
+                    next = subst (λ d. published ≡ d ++ m ∷ rest) (sym since) whole;
+                  })
+                  framed,
               o.lawful.each,
             );
           };

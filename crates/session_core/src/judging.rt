@@ -174,11 +174,7 @@ fn judge_params(
 }
 
 // What a request asks of the workspace in force.
-fn judge_request(
-    alloc: Global,
-    request: Request,
-    workspace: &Workspace,
-) -> Result<Owed, NoMemory>
+fn judge_request(alloc: Global, request: Request, workspace: &Workspace) -> Result<Owed, NoMemory>
     requires { HasRequestTexts request }
     ensures judged { IfOk result (Judges (Some workspace.now) (asked_of workspace.now request)) }
     ensures short { IfOk result IsSaidOwed }
