@@ -98,21 +98,39 @@ const REFUSED: [(&[u8], i32); 31] = [
     (br#"{"jsonrpc":2.0,"method":"x"}"#, -32600),
     (br#"{"jsonrpc":"2.1","method":"x"}"#, -32600),
     (br#"{"jsonrpc":"2.0","method":1}"#, -32600),
-    (br#"{"jsonrpc":"2.0","method":null,"id":1,"result":1}"#, -32600),
+    (
+        br#"{"jsonrpc":"2.0","method":null,"id":1,"result":1}"#,
+        -32600,
+    ),
     (br#"{"jsonrpc":"2.0","method":"x","params":"y"}"#, -32600),
     (br#"{"jsonrpc":"2.0","id":1.5,"method":"x"}"#, -32600),
     (br#"{"jsonrpc":"2.0","id":1.0,"method":"x"}"#, -32600),
     (br#"{"jsonrpc":"2.0","id":null,"method":"x"}"#, -32600),
-    (br#"{"jsonrpc":"2.0","id":9223372036854775808,"method":"x"}"#, -32600),
+    (
+        br#"{"jsonrpc":"2.0","id":9223372036854775808,"method":"x"}"#,
+        -32600,
+    ),
     (br#"{"jsonrpc":"2.0","id":1}"#, -32600),
     (br#"{"jsonrpc":"2.0","result":1}"#, -32600),
     (br#"{"jsonrpc":"2.0","id":1.0,"result":1}"#, -32600),
-    (br#"{"jsonrpc":"2.0","id":1,"result":1,"error":null}"#, -32600),
+    (
+        br#"{"jsonrpc":"2.0","id":1,"result":1,"error":null}"#,
+        -32600,
+    ),
     (br#"{"jsonrpc":"2.0","id":1,"error":null}"#, -32600),
     (br#"{"jsonrpc":"2.0","id":1,"error":{"code":1}}"#, -32600),
-    (br#"{"jsonrpc":"2.0","id":1,"error":{"message":"no"}}"#, -32600),
-    (br#"{"jsonrpc":"2.0","id":1,"error":{"code":1.0,"message":"no"}}"#, -32600),
-    (br#"{"jsonrpc":"2.0","id":1,"error":{"code":1,"message":null}}"#, -32600),
+    (
+        br#"{"jsonrpc":"2.0","id":1,"error":{"message":"no"}}"#,
+        -32600,
+    ),
+    (
+        br#"{"jsonrpc":"2.0","id":1,"error":{"code":1.0,"message":"no"}}"#,
+        -32600,
+    ),
+    (
+        br#"{"jsonrpc":"2.0","id":1,"error":{"code":1,"message":null}}"#,
+        -32600,
+    ),
     (br#"{"jsonrpc":"2.0","id":true,"method":"x"}"#, -32600),
 ];
 
@@ -136,7 +154,13 @@ fn refuses_what_is_no_message(rt: HostRuntime) -> Result<(), Fail> {
 }
 
 /// A front, and then so many times `more` and so many times `close`.
-fn grown(alloc: Global, front: &[u8], more: &[u8], close: &[u8], count: u32) -> Result<Text, NoMemory> {
+fn grown(
+    alloc: Global,
+    front: &[u8],
+    more: &[u8],
+    close: &[u8],
+    count: u32,
+) -> Result<Text, NoMemory> {
     let mut body = Text::new(alloc, front)?;
     for _ in 0..count {
         body = body.followed_by(more)?;
@@ -153,9 +177,10 @@ fn limits_ids_and_nesting(rt: HostRuntime) -> Result<(), Fail> {
     let named = br#"{"jsonrpc":"2.0","method":"x","id":""#;
     let nested = br#"{"jsonrpc":"2.0","method":"x","params":"#;
     // A body counts as a level too.
-    for (length, named_code, depth, nested_code) in
-        [(1_024, 0, 126, 0), (1_025, -32600, 127, -32700)]
-    {
+    for (length, named_code, depth, nested_code) in [
+        (1_024, 0, 126, 0),
+        (1_025, -32600, 127, -32700),
+    ] {
         let body = grown(alloc, named, b"a", b"", length)?.followed_by(b"\"}")?;
         assert_eq!(rt; code_of(alloc, body.as_slice())?, named_code, "{length}");
         let body = grown(alloc, nested, b"[", b"]", depth)?.followed_by(b"}")?;
