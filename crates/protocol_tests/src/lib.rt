@@ -11,3 +11,5 @@ mod messages;
 mod records;
 #[cfg(test)]
 mod streams;
+#[cfg(test)]
+mod workspaces;

@@ -34,12 +34,12 @@ pub no_cycles : (targets : List Target) (n : ℕ) → length targets ≤ n → (
 no_cycles targets n h before k c = before k (let l = slice_get_within targets k c.direct.target c.direct.there in omega arith) c
 
 pub no_first_cycle : (targets : List Target) → ((k : ℕ) → ¬ (Circles targets k)) → (name : List ℕ) → ¬ (IsFirstCycle targets name)
-no_first_cycle targets none name f = none f.place f.circles
+no_first_cycle targets none name f = none f.index f.circles
 
 pub first_cycle : (targets : List Target) (n : ℕ) (target : Target) (marks : List Bool) → n < length targets → target ≡ get_or targets n target
     → AreMarks targets target.dependencies marks → has_met marks n ≡ true → ((k : ℕ) → k < n → ¬ (Circles targets k)) → IsFirstCycle targets target.name
 first_cycle targets n target marks h e m is before = record {
-  place = n;
+  index = n;
   target = target;
   there = slice_get_read targets (length targets) n target refl h e;
   named = refl;

@@ -11,7 +11,7 @@ use Rattle.target_graph.specs.Names.{stem}
 use Rattle.target_graph.specs.Faults.{IsRepeat}
 use Rattle.target_graph.specs.Workspace.{Space, id_of, name_at, pairs_of, Sees}
 use Rattle.target_graph.proofs.PairLaws.{pairs_within}
-use Rattle.target_graph.proofs.SeenStems.{same_place}
+use Rattle.target_graph.proofs.SeenStems.{same_index}
 
 -- a target sees its own pairs
 sees_own : (targets : List Target) (i : ℕ) (pair : Pair) (t : ℕ) → i < length (pairs_of targets) → pair ≡ get_or (pairs_of targets) i pair → t ≡ pair.target → Sees targets t i
@@ -54,7 +54,7 @@ same_pair space names p q h k documents ids =
     let size : length (map (λ (t : Target). t.name) space.targets) ≡ length space.targets = length-map space.targets (λ (t : Target). t.name) in
     let path : p.path ≡ q.path = append_cancel_left space.root p.path q.path documents in
     let name : name_at space.targets p.target ≡ name_at space.targets q.target = same_name space.root (name_at space.targets p.target) (name_at space.targets q.target) ids in
-    parts_same p q (same_place (map (λ (t : Target). t.name) space.targets) p.target q.target names (subst (λ n. p.target < n) (sym size) h) (subst (λ n. q.target < n) (sym size) k) name) path
+    parts_same p q (same_index (map (λ (t : Target). t.name) space.targets) p.target q.target names (subst (λ n. p.target < n) (sym size) h) (subst (λ n. q.target < n) (sym size) k) name) path
 
 pub pairs_apart : (space : Space) → AllPairs ◌≢◌ (map (λ (t : Target). t.name) space.targets) → ((t q : ℕ) → ¬ (IsRepeat space.targets t q))
     → AllPairs (AreApart space) (pairs_of space.targets)

@@ -10,12 +10,12 @@ use Rattle.std.proofs.lemmas.Slice.Eq.{bytes_eq-Decides}
 use Rattle.target_graph.specs.declared.target.Pair.{Pair}
 use Rattle.target_graph.specs.declared.target.Target.{Target}
 use Rattle.target_graph.specs.Address.{target_address, printed, IsSpelling}
-use Rattle.target_graph.specs.Faults.{place_of}
+use Rattle.target_graph.specs.Faults.{index_of}
 use Rattle.target_graph.specs.Listers.{is_this, is_one, IsLister, AreListers}
 use Rattle.target_graph.specs.Workspace.{Space, pairs_of, name_at, path_at, id_of, Lists, IsInverse}
 use Rattle.target_graph.proofs.Listed.{listed_any}
-use Rattle.target_graph.proofs.SeenStems.{same_place}
-use Rattle.target_graph.proofs.Sound.{place_within}
+use Rattle.target_graph.proofs.SeenStems.{same_index}
+use Rattle.target_graph.proofs.Sound.{index_within}
 
 pub id_joined : (space : Space) (t : ℕ) (root name : List ℕ) → root ≡ space.root → name ≡ name_at space.targets t → (root ++ codes "?id=") ++ name ≡ id_of space t
 unfolding target_address
@@ -35,11 +35,11 @@ id_cut space t = append_assoc space.root (codes "?id=") (name_at space.targets t
 one_more : (n : ℕ) → 1 + n ≡ suc n
 one_more n = omega arith
 
-place_named : (names : List (List ℕ)) (x : List ℕ) → list_any (bytes_eq x) names ≡ true → get_or names (place_of names x) [] ≡ x
-place_named [] x e = absurd (false≢true e)
-place_named (y ∷ ys) x e = go (bytes_eq x y) refl e (place_named ys x)
+index_named : (names : List (List ℕ)) (x : List ℕ) → list_any (bytes_eq x) names ≡ true → get_or names (index_of names x) [] ≡ x
+index_named [] x e = absurd (false≢true e)
+index_named (y ∷ ys) x e = go (bytes_eq x y) refl e (index_named ys x)
   where
-    go : (b : Bool) → bytes_eq x y ≡ b → (b || list_any (bytes_eq x) ys) ≡ true → (list_any (bytes_eq x) ys ≡ true → get_or ys (place_of ys x) [] ≡ x)
+    go : (b : Bool) → bytes_eq x y ≡ b → (b || list_any (bytes_eq x) ys) ≡ true → (list_any (bytes_eq x) ys ≡ true → get_or ys (index_of ys x) [] ≡ x)
         → get_or (y ∷ ys) (cond (not b) (1 + prefix_len (λ z. not (bytes_eq x z)) ys) 0) [] ≡ x
     go true is h rest = sym ((bytes_eq-Decides x y).0 is)
     go false is h rest = ap (λ n. get_or (y ∷ ys) n []) (one_more (prefix_len (λ z. not (bytes_eq x z)) ys)) ∙ rest h
@@ -52,12 +52,12 @@ module _ (space : Space) (keys : List (List ℕ)) (same : keys ≡ map (λ (t : 
   at_key t = ap (λ (xs : List (List ℕ)). get_or xs t []) same
 
   pub found_target : (text root rest name : List ℕ) → root ≡ space.root → text ≡ root ++ rest → rest ≡ codes "?id=" ++ name → (o : Option ℕ)
-      → IfSome o (λ place. (place ≡ place_of keys name) × Contains keys name) → IfNone o (¬ (Contains keys name))
+      → IfSome o (λ index. (index ≡ index_of keys name) × Contains keys name) → IfNone o (¬ (Contains keys name))
       → IfSome o (λ t. (t < length space.targets) × (id_of space t ≡ text)) × IfNone o ((t : ℕ) → t < length space.targets → id_of space t ≢ text)
   found_target text root rest name r a b (Some t) s n =
       let any = listed_any keys name s.1 in
-      let named : get_or keys t [] ≡ name = ap (λ k. get_or keys k []) s.0 ∙ place_named keys name any in
-      let h : t < length keys = subst (λ k. k < length keys) (sym s.0) (place_within keys name any) in (
+      let named : get_or keys t [] ≡ name = ap (λ k. get_or keys k []) s.0 ∙ index_named keys name any in
+      let h : t < length keys = subst (λ k. k < length keys) (sym s.0) (index_within keys name any) in (
         (
           subst (λ k. t < k) size h,
           id_cut space t ∙ (ap (λ (x : List ℕ). space.root ++ (codes "?id=" ++ x)) (sym (at_key t) ∙ named)
@@ -88,7 +88,7 @@ module _ (space : Space) (keys : List (List ℕ)) (same : keys ≡ map (λ (t : 
   same_target d s t h k e =
       let cut = sym (id_cut space s) ∙ (e ∙ id_cut space t) in
       let one = append_cancel_left (codes "?id=") (name_at space.targets s) (name_at space.targets t) (append_cancel_left space.root _ _ cut) in
-      same_place keys s t d (subst (λ n. s < n) (sym size) h) (subst (λ n. t < n) (sym size) k) (at_key s ∙ (one ∙ sym (at_key t)))
+      same_index keys s t d (subst (λ n. s < n) (sym size) h) (subst (λ n. t < n) (sym size) k) (at_key s ∙ (one ∙ sym (at_key t)))
 
   -- the answer is the one target with this id
   pub only_one : AllPairs ◌≢◌ keys → (text : List ℕ) (o : Option ℕ) → IfSome o (λ t. (t < length space.targets) × (id_of space t ≡ text))
@@ -146,12 +146,12 @@ cut_none uri root p = record {
   whole = λ path e. (let q = sym e ∙ p in absurd (cc));
 }
 
-pub inverse_of : (space : Space) (uri root : List ℕ) (own : Option (Bor (List ℕ))) (other : Option (List ℕ)) (places : List ℕ) → root ≡ space.root
+pub inverse_of : (space : Space) (uri root : List ℕ) (own : Option (Bor (List ℕ))) (other : Option (List ℕ)) (indices : List ℕ) → root ≡ space.root
     → IfSome own (λ rest. uri ≡ root ++ rest.now) → IfNone own ((rest : List ℕ) → uri ≢ root ++ rest) → IsCut uri root other
-    → AreListers space.targets (option_copied own) other places → IsInverse space uri places
-inverse_of space uri root own other places r s n cut l = record {
+    → AreListers space.targets (option_copied own) other indices → IsInverse space uri indices
+inverse_of space uri root own other indices r s n cut l = record {
   ordered = l.ordered;
-  each = λ k d h. lists (get_or places k d) (l.each k d h);
+  each = λ k d h. lists (get_or indices k d) (l.each k d h);
   whole = λ t x. l.whole t (listed t x);
 }
   where

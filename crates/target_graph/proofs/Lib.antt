@@ -1,8 +1,6 @@
-pub mod Places
+pub mod Indices
 pub mod ModuleNames
 pub mod Results
-pub mod FirstBad
-pub mod Values
 pub mod Counts
 pub mod Listed
 pub mod Steps

@@ -6,7 +6,7 @@ use Rattle.std.proofs.lemmas.Bool.{and_parts, false≢true}
 use Rattle.std.proofs.lemmas.Slice.Eq.{bytes_eq-Decides}
 use Rattle.oberon_scan.specs.Finding.{find_word}
 use Rattle.oberon_scan.proofs.Spelled.{word_again}
-use Rattle.target_graph.specs.declared.names.TheConstants.{NAME_LIMIT}
+use Rattle.target_graph.specs.Limits.{name_limit}
 use Rattle.target_graph.specs.Names.{is_path, is_module_name, is_identifier, is_segment, segments, stem, IsModuleName}
 
 not_true : (b : Bool) → not b ≡ true → b ≡ true → ⊥
@@ -27,4 +27,4 @@ is_module text e =
 pub path_name : (path : List ℕ) → is_path path ≡ true → IsModuleName (stem path)
 unfolding is_path
 path_name path e =
-    is_module (stem path) (and_parts (leb (length path) NAME_LIMIT && list_all is_segment (segments path)) (is_module_name (stem path)) e).1
+    is_module (stem path) (and_parts (leb (length path) name_limit && list_all is_segment (segments path)) (is_module_name (stem path)) e).1

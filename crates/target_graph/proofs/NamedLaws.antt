@@ -37,9 +37,9 @@ module _ (space : Space) (text : List ℕ) where
         let passes : has_id (get_or space.targets t nobody) ≡ true = (bytes_eq-Decides text _).1 (sym is.1 ∙ sym (id_here t nobody is.0)) in
         absurd (false≢true (sym fails ∙ passes))
 
-    by_place : (b : Bool) → ltb first (length space.targets) ≡ b → o ≡ cond b (Some first) None
-    by_place true is = there (grind (arith, nat_tests))
-    by_place false is = nowhere (grind (arith, nat_tests)) o some
+    by_index : (b : Bool) → ltb first (length space.targets) ≡ b → o ≡ cond b (Some first) None
+    by_index true is = there (grind (arith, nat_tests))
+    by_index false is = nowhere (grind (arith, nat_tests)) o some
 
     pub placed : o ≡ with_id space text
-    placed = by_place (ltb first (length space.targets)) refl
+    placed = by_index (ltb first (length space.targets)) refl

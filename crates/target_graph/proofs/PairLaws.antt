@@ -35,10 +35,10 @@ pub pairs_within : (targets : List Target) → All (λ (pair : Pair). pair.targe
 unfolding pairs_of
 pairs_within targets = subst (λ n. All (λ (pair : Pair). pair.target < n) (pairs_of targets)) (zero-add (length targets)) (within_from 0 targets)
 
--- the name at a place is one
+-- the name at an index is one
 pub name_valid : (targets : List Target) (t : ℕ) (target : Target) → t < length targets → AreValid targets → is_name (name_at targets t) ≡ true
 name_valid targets t target h valid = ap is_name (get_or-map (λ (x : Target). x.name) targets t target [] h) ∙ (valid t target h).0
 
--- the path of the pair at a place is one
+-- the path of the pair at an index is one
 pub path_valid : (targets : List Target) (q : ℕ) (pair : Pair) → q < length (pairs_of targets) → AreValid targets → is_path (path_at targets q) ≡ true
 path_valid targets q pair h valid = ap is_path (get_or-map (λ (x : Pair). x.path) (pairs_of targets) q pair [] h) ∙ pairs_valid targets valid q pair h

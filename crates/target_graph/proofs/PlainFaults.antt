@@ -52,9 +52,9 @@ dependencies_right (entry ∷ entries) right =
 -- the name of a target
 plain_target : (targets : List Target) (name : List ℕ) → AreValid targets → IsFirstCycle targets name → IsPlainName name
 plain_target targets name valid f =
-    let h = slice_get_within targets f.place f.target f.there in
-    let v = valid f.place f.target h in
-    let e : get_or targets f.place f.target ≡ f.target = get_or_from_slice_get targets f.place f.target f.target f.there in
+    let h = slice_get_within targets f.index f.target f.there in
+    let v = valid f.index f.target h in
+    let e : get_or targets f.index f.target ≡ f.target = get_or_from_slice_get targets f.index f.target f.target f.there in
     plain_name name (subst (λ (text : List ℕ). is_name text ≡ true) (ap (λ (t : Target). t.name) e ∙ f.named) v.0)
 
 -- the stem of a pair
@@ -67,7 +67,7 @@ plain_pair targets name valid f =
     let there : stem_at targets f.pair ≡ stem (get_or pairs f.pair s.pair).path = get_or-map (λ (pair : Pair). stem pair.path) pairs f.pair s.pair [] h in
     subst IsPlainName (sym there ∙ f.named) (plain_stem (get_or pairs f.pair s.pair).path (pairs_valid targets valid f.pair s.pair h))
 
--- what a fault is about, but for a field, whose place may be any
+-- what a fault is about, but for a field, whose index may be any
 plain_fault : (held : Held) (kind : FaultKind) → ¬ (rank kind ≡ 2) → Passed held (rank kind) → (name : List ℕ) → IsFault held kind name → IsPlainName name
 plain_fault held kinds.NoFile other passed name f = plain_empty name f.1
 plain_fault held kinds.BadJson other passed name f = plain_empty name f.1

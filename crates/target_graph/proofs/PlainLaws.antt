@@ -1,23 +1,20 @@
 -- Names, stems, paths of fields and addresses are printing ASCII characters without blanks, and short.
-use Rattle.std.proofs.Common.{◌≡◌, ℕ, ◌+◌, ◌-◌, ◌<◌, ◌≤◌, ◌^◌, ◌&&◌, Bool, true, false, not, cond, List, [], ◌∷◌, ◌++◌, length, take, drop, codes, decimal, eqb, leb, refl, ap, ◌∙◌, arith}
+use Rattle.std.proofs.Common.{◌≡◌, ℕ, ◌+◌, ◌-◌, ◌<◌, ◌≤◌, ◌^◌, ◌&&◌, Bool, true, false, not, cond, List, [], ◌∷◌, ◌++◌, length, max, take, drop, codes, eqb, leb, refl, ap, ◌∙◌, arith}
 use Rattle.std.specs.Char.{is_ascii_graphic}
 use Rattle.std.specs.List.{AllPass, list_all, slice_split, onto_first, position_or_len, suffix_len}
 use Rattle.std.specs.Str.{bytes_eq}
-use Rattle.std.specs.Str.Parse.{AllDigits}
 use Rattle.std.proofs.lemmas.Bool.{and_from, and_parts, leb-true, eqb-true}
 use Rattle.std.proofs.lemmas.Bool.Decides.{nat_tests}
-use Rattle.std.proofs.lemmas.Fmt.{length-decimal-le, decimal_is_IsNumeral}
 use Rattle.std.proofs.lemmas.List.{length-append, length-take, length-drop}
 use Rattle.std.proofs.lemmas.List.Elements.{All-take, All-drop, All-weaker}
 use Rattle.std.proofs.lemmas.List.Folds.{list_all-append}
 use Rattle.std.proofs.lemmas.List.Sums.{AllPass-from_list_all, list_all-from_AllPass}
 use Rattle.std.proofs.lemmas.Str.Ascii.{IsAscii-from_all}
-use Rattle.std.proofs.lemmas.Str.Parse.{digit_from_value}
-use Rattle.target_graph.specs.declared.fields.Part.{Part}
-use Rattle.target_graph.specs.declared.fields.Part.TheVariants as parts
-use Rattle.target_graph.specs.declared.names.TheConstants.{NAME_LIMIT}
+use Rattle.ob_text.specs.Ascii.{IsGraphic}
+use Rattle.json_shape.specs.Paths.{longest}
+use Rattle.target_graph.specs.File.{file}
+use Rattle.target_graph.specs.Limits.{name_limit}
 use Rattle.target_graph.specs.Address.{target_address, document_address, IsPlainAddress}
-use Rattle.target_graph.specs.File.{at_index, part_name, part_path, IsPlaced}
 use Rattle.target_graph.specs.Names.{is_name_byte, is_word, is_name, is_segment, segments, stem, is_module_name, is_path, IsPlainName}
 use Rattle.target_graph.specs.Plain.{IsPlain}
 use Rattle.target_graph.specs.Root.{IsRoot}
@@ -58,8 +55,8 @@ word_bytes text e = (and_parts (not (eqb (length text) 0)) (list_all is_name_byt
 pub plain_name : (text : List ℕ) → is_name text ≡ true → IsPlainName text
 unfolding is_name
 plain_name text e =
-    let h = and_parts (is_word text) (leb (length text) NAME_LIMIT) e in
-    plain_bytes NAME_LIMIT text (all_weaker is_name_byte is_ascii_graphic name_byte text (word_bytes text h.0)) (leb-true (length text) NAME_LIMIT h.1)
+    let h = and_parts (is_word text) (leb (length text) name_limit) e in
+    plain_bytes name_limit text (all_weaker is_name_byte is_ascii_graphic name_byte text (word_bytes text h.0)) (leb-true (length text) name_limit h.1)
 
 -- ---- paths and stems
 
@@ -98,9 +95,9 @@ split_graphic (b ∷ bs) e = go (eqb b 47) refl e (split_graphic bs)
 pub plain_path : (path : List ℕ) → is_path path ≡ true → IsPlainName path
 unfolding is_path
 plain_path path e =
-    let h = and_parts (leb (length path) NAME_LIMIT && list_all is_segment (segments path)) (is_module_name (stem path)) e in
-    let k = and_parts (leb (length path) NAME_LIMIT) (list_all is_segment (segments path)) h.0 in
-    plain_bytes NAME_LIMIT path (split_graphic path (words_of (segments path) k.1)) (leb-true (length path) NAME_LIMIT k.0)
+    let h = and_parts (leb (length path) name_limit && list_all is_segment (segments path)) (is_module_name (stem path)) e in
+    let k = and_parts (leb (length path) name_limit) (list_all is_segment (segments path)) h.0 in
+    plain_bytes name_limit path (split_graphic path (words_of (segments path) k.1)) (leb-true (length path) name_limit k.0)
 
 pub plain_stem : (path : List ℕ) → is_path path ≡ true → IsPlainName (stem path)
 unfolding stem
@@ -109,38 +106,14 @@ plain_stem path e =
     let start : ℕ = length path - suffix_len (λ byte. not (eqb byte 47)) path in
     let end : ℕ = position_or_len (λ byte. eqb byte 46) (drop start path) in
     let back : AllPass is_ascii_graphic (drop start path) = All-drop (λ b. is_ascii_graphic b ≡ true) start path (AllPass-from_list_all is_ascii_graphic path p.graphic) in
-    plain_bytes NAME_LIMIT (take end (drop start path))
+    plain_bytes name_limit (take end (drop start path))
     (list_all-from_AllPass is_ascii_graphic (take end (drop start path)) (All-take (λ b. is_ascii_graphic b ≡ true) end (drop start path) back))
     (let s = p.short in omega (arith, length-take end (drop start path), length-drop start path))
 
 -- ---- the paths of fields
 
-digits_graphic : (bs : List ℕ) → AllDigits 10 bs → list_all is_ascii_graphic bs ≡ true
-digits_graphic [] h = refl
-digits_graphic (b ∷ bs) h = and_from _ _ (let d = digit_from_value b h.0 in grind (arith, nat_tests)) (digits_graphic bs h.1)
-
-plain_index : (n : ℕ) → n < 2 ^ 64 → IsPlain 22 (at_index n)
-plain_index n h =
-    let digits : IsPlain 20 (decimal n) = plain_bytes 20 (decimal n) (digits_graphic (decimal n) (decimal_is_IsNumeral n h).0.1) (length-decimal-le 20 n (omega arith) (omega arith) h) in
-    plain_append 21 1 (codes "[" ++ decimal n) (codes "]") (plain_append 1 20 (codes "[") (decimal n) (plain_bytes 1 (codes "[") refl (omega arith)) digits)
-    (plain_bytes 1 (codes "]") refl (omega arith))
-
-plain_part : (part : Part) → IsPlaced part → IsPlain 35 (part_name part)
-plain_part parts.Whole h = plain_bytes 35 [] refl (omega arith)
-plain_part parts.Name h = plain_bytes 35 (codes ".name") refl (omega arith)
-plain_part parts.Kind h = plain_bytes 35 (codes ".kind") refl (omega arith)
-plain_part parts.Modules h = plain_bytes 35 (codes ".modules") refl (omega arith)
-plain_part (parts.Module k) h = plain_append 13 22 (codes ".modules") (at_index k) (plain_bytes 13 (codes ".modules") refl (omega arith)) (plain_index k h)
-plain_part parts.Dependencies h = plain_bytes 35 (codes ".dependencies") refl (omega arith)
-plain_part (parts.Dependency k) h = plain_append 13 22 (codes ".dependencies") (at_index k) (plain_bytes 13 (codes ".dependencies") refl (omega arith)) (plain_index k h)
-plain_part parts.Main h = plain_bytes 35 (codes ".main") refl (omega arith)
-
-pub plain_part_path : (n : ℕ) (part : Part) → n < 2 ^ 64 → IsPlaced part → IsPlainName (part_path n part)
-unfolding part_path
-plain_part_path n part h placed =
-    plain_within 64 NAME_LIMIT _ (omega arith)
-    (plain_append 29 35 (codes "targets" ++ at_index n) (part_name part)
-    (plain_append 7 22 (codes "targets") (at_index n) (plain_bytes 7 (codes "targets") refl (omega arith)) (plain_index n h)) (plain_part part placed))
+pub plain_field : (name : List ℕ) → IsGraphic name → length name ≤ max (length (codes "$")) (longest file) → IsPlainName name
+plain_field name graphic short = plain_bytes name_limit name graphic (omega arith)
 
 -- ---- ids and addresses
 

@@ -8,7 +8,7 @@ use Rattle.target_graph.specs.declared.fault.FaultKind.{FaultKind}
 use Rattle.target_graph.specs.declared.fault.FaultKind.TheVariants as kinds
 use Rattle.target_graph.specs.declared.fault.WorkspaceRefusal.{WorkspaceRefusal}
 use Rattle.target_graph.specs.declared.fault.WorkspaceRefusal.TheVariants as refusals
-use Rattle.target_graph.specs.File.{entries_of, file_fields, first_bad}
+use Rattle.target_graph.specs.File.{bad_file, entries_of}
 use Rattle.target_graph.specs.Faults.{json_of, text_in, value_in, entries_in, rank, Passed, IsFault, IsRefusal, HasPlainName, Accepted, Looks}
 use Rattle.target_graph.specs.Listing.{Accepts}
 use Rattle.target_graph.specs.Workspace.{Space}
@@ -48,8 +48,8 @@ refused held kind refusals.NoMemory IsBad IsGood before is h = tt
 pub value_of_text : (held : Held) (text : List ℕ) → text_in held ≡ Some text → value_in held ≡ json_of text
 value_of_text held text e = ap (option_and_then json_of) e
 
-pub bad_of_value : (held : Held) (d : Data) → value_in held ≡ Some d → option_and_then (λ v. first_bad (file_fields v)) (value_in held) ≡ first_bad (file_fields d)
-bad_of_value held d e = ap (option_and_then (λ (v : Data). first_bad (file_fields v))) e
+pub bad_of_value : (held : Held) (d : Data) → value_in held ≡ Some d → option_and_then bad_file (value_in held) ≡ bad_file d
+bad_of_value held d e = ap (option_and_then bad_file) e
 
 pub entries_of_value : (held : Held) (d : Data) → value_in held ≡ Some d → entries_in held ≡ entries_of d
 unfolding entries_in

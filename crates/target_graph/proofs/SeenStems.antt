@@ -85,7 +85,7 @@ module _ (marks : List Bool) (pairs : List Pair) (numbers : List ℕ) where
   pub first_twice : (q : ℕ) (pair : Pair) → q < length pairs → pair ≡ get_or pairs q pair → IsTwice marks pairs numbers q → ((k : ℕ) → k < q → ¬ (IsTwice marks pairs numbers k))
       → IsFirstTwice marks pairs numbers (stem pair.path)
   first_twice q pair h e t before = record {
-    place = q;
+    index = q;
     pair = pair;
     there = slice_get_read pairs (length pairs) q pair refl h e;
     named = refl;
@@ -97,7 +97,7 @@ module _ (marks : List Bool) (pairs : List Pair) (numbers : List ℕ) where
   none_twice q h before k t = before k (let l = slice_get_within pairs k t.seen.pair t.seen.there in omega arith) t
 
   pub none_first : ((k : ℕ) → ¬ (IsTwice marks pairs numbers k)) → (name : List ℕ) → ¬ (IsFirstTwice marks pairs numbers name)
-  none_first none name f = none f.place f.twice
+  none_first none name f = none f.index f.twice
 
 -- ---- what a target sees
 
@@ -121,8 +121,8 @@ module _ (targets : List Target) (t : ℕ) (marks : List Bool) (m : AreMarks tar
   pub seen_sees : (q : ℕ) → IsSeen marks (pairs_of targets) q → Sees targets t q
   seen_sees q s = record { pair = s.pair; there = s.there; leads = mark_leads targets t s.pair.target marks m s.is_marked }
 
-pub same_place : (keys : List (List ℕ)) (i j : ℕ) → AllPairs ◌≢◌ keys → i < length keys → j < length keys → get_or keys i [] ≡ get_or keys j [] → i ≡ j
-same_place keys i j d h k e = by (cases_lt i j) (cases_lt j i)
+pub same_index : (keys : List (List ℕ)) (i j : ℕ) → AllPairs ◌≢◌ keys → i < length keys → j < length keys → get_or keys i [] ≡ get_or keys j [] → i ≡ j
+same_index keys i j d h k e = by (cases_lt i j) (cases_lt j i)
   where
     by : (i < j) ⊎ (j ≤ i) → (j < i) ⊎ (i ≤ j) → i ≡ j
     by (inl l) o = absurd (d i j [] l k e)
@@ -137,7 +137,7 @@ module _ (targets : List Target) (numbers : List ℕ) (width : ℕ) (has : HasNu
   same_number p q h k e =
       let hp : p < length (stems_of (pairs_of targets)) = omega (arith, stems_size) in
       let hq : q < length (stems_of (pairs_of targets)) = omega (arith, stems_size) in
-      same_place has.keys (get_or numbers p 0) (get_or numbers q 0) has.numbered.distinct (has.numbered.within p hp) (has.numbered.within q hq)
+      same_index has.keys (get_or numbers p 0) (get_or numbers q 0) has.numbered.distinct (has.numbered.within p hp) (has.numbered.within q hq)
       (has.numbered.named p hp ∙ (e ∙ sym (has.numbered.named q hq)))
 
   same_stem : (p q : ℕ) → p < length (pairs_of targets) → q < length (pairs_of targets) → get_or numbers p 0 ≡ get_or numbers q 0 → stem_at targets p ≡ stem_at targets q
@@ -174,10 +174,10 @@ module _ (targets : List Target) (numbers : List ℕ) (width : ℕ) (has : HasNu
 
     pub first_stem : (name : List ℕ) → IsFirstTwice marks (pairs_of targets) numbers name → ((k : ℕ) → k < t → (q : ℕ) → ¬ (IsRepeat targets k q)) → IsFirstStemTwice targets name
     first_stem name f before = record {
-      place = t;
-      pair = f.place;
-      repeats = twice_repeat f.place f.twice;
-      named = stem_there f.place f.pair f.there ∙ f.named;
+      index = t;
+      pair = f.index;
+      repeats = twice_repeat f.index f.twice;
+      named = stem_there f.index f.pair f.there ∙ f.named;
       first_pair = λ q h r. f.first q h (repeat_twice q r);
       first_target = before;
     }
@@ -194,4 +194,4 @@ pub no_repeats : (targets : List Target) (at : ℕ) → length targets ≤ at �
 no_repeats targets at h none t q r = none t (let l = sees_within targets t q r.sees in omega arith) q r
 
 pub no_first_stem : (targets : List Target) → ((t q : ℕ) → ¬ (IsRepeat targets t q)) → (name : List ℕ) → ¬ (IsFirstStemTwice targets name)
-no_first_stem targets none name f = none f.place f.pair f.repeats
+no_first_stem targets none name f = none f.index f.pair f.repeats

@@ -8,94 +8,69 @@ use Rattle.std.proofs.lemmas.List.{length-append, length-map}
 use Rattle.std.proofs.lemmas.List.Elements.{All-nil, All-cons, All-map, All-head, All-tail}
 use Rattle.ob_text.specs.declared.held.Held.{Held}
 use Rattle.serde_json.specs.Data.{Data}
-use Rattle.serde_json.specs.Find.{get, as_object, as_str}
+use Rattle.serde_json.specs.Find.{get, as_array, as_object, as_str}
+use Rattle.json_shape.specs.Shapes.{at, bad, bad_field, bad_if_given, bad_item, bad_unless, item_step, list_of, member_step, named_path, text_where, under, values_in, whole}
+use Rattle.json_shape.proofs.NoneLaws.{none_first, none_under, passed_text, passed_texts}
 use Rattle.target_graph.specs.declared.entry.Entry.{Entry}
 use Rattle.target_graph.specs.declared.fault.FaultKind.TheVariants as kinds
-use Rattle.target_graph.specs.declared.fields.Part.{Part}
-use Rattle.target_graph.specs.declared.fields.Part.TheVariants as parts
 use Rattle.target_graph.specs.declared.target.Target.{Target}
 use Rattle.target_graph.specs.declared.target.Pair.{Pair}
 use Rattle.target_graph.specs.Names.{is_name, is_path}
-use Rattle.target_graph.specs.File.{first_bad, holds, text_of, text_at, kind_at, list_at, is_version, items_at, item_fields, target_fields, targets_fields, module_fields, dependency_fields, main_fields, file_fields, part_path, entry_of, entries_of}
-use Rattle.target_graph.specs.Faults.{value_in, entries_in, names_of, modules_of, dependencies_of, place_of, target_of, targets_in, too_many, Passed}
+use Rattle.target_graph.specs.File.{bad_file, dependency_fields, entries_of, entry_of, file, file_fields, given_texts, is_kind, kind_fields, main_fields, module_fields, target, target_fields, targets_fields}
+use Rattle.target_graph.specs.Faults.{value_in, entries_in, names_of, modules_of, dependencies_of, index_of, target_of, targets_in, too_many, Passed}
 use Rattle.target_graph.specs.Listing.{IsListing}
 use Rattle.target_graph.specs.declared.reading.Listing.{Listing}
 use Rattle.target_graph.specs.Workspace.{AreValid, pairs_at, pairs_from, pairs_of}
 use Rattle.target_graph.specs.Kept.{IsSound, IsSoundOf}
-use Rattle.target_graph.proofs.FirstBad.{first_bad-append, first_bad-map}
 use Rattle.target_graph.proofs.Listed.{listed_any}
 use Rattle.target_graph.proofs.Refusals.{bad_of_value, entries_of_value}
 
 -- ---- where no field is bad
 
-none_cons : {A : Type 0} (f : A × Bool) (fs : List (A × Bool)) → first_bad (f ∷ fs) ≡ None → (f.1 ≡ true) × (first_bad fs ≡ None)
-none_cons f fs e = go f.1 refl e
-  where
-    go : (b : Bool) → f.1 ≡ b → cond b (first_bad fs) (Some f.0) ≡ None → (f.1 ≡ true) × (first_bad fs ≡ None)
-    go true is h = (is, h)
-    go false is h = absurd (cc)
-
-none_or : {A : Type 0} (a b : Option A) → option_or a b ≡ None → (a ≡ None) × (b ≡ None)
-none_or None b e = (refl, e)
-none_or (Some x) b e = absurd (cc)
-
-none_append : {A : Type 0} (fs gs : List (A × Bool)) → first_bad (fs ++ gs) ≡ None → (first_bad fs ≡ None) × (first_bad gs ≡ None)
-none_append fs gs e = none_or (first_bad fs) (first_bad gs) (sym (first_bad-append fs gs) ∙ e)
-
-none_map : {A B : Type 0} (g : A → B) (o : Option A) → option_map g o ≡ None → o ≡ None
-none_map g None e = refl
-none_map g (Some x) e = absurd (cc)
-
-held_text : (test : List ℕ → Bool) (o : Option (List ℕ)) → holds test o ≡ true → test (unwrap_or o []) ≡ true
-held_text test None e = absurd (false≢true e)
-held_text test (Some x) e = e
-
-items_right : (part : ℕ → Part) (test : List ℕ → Bool) (n : ℕ) (ds : List Data) → first_bad (item_fields part test n ds) ≡ None → All (λ text. test text ≡ true) (map text_of ds)
-items_right part test n [] e = All-nil (λ text. test text ≡ true)
-items_right part test n (d ∷ ds) e =
-    let h = none_cons (part n, holds test (as_str d)) (item_fields part test (suc n) ds) e in
-    All-cons (λ text. test text ≡ true) (text_of d) (map text_of ds) (held_text test (as_str d) h.0) (items_right part test (suc n) ds h.1)
-
 abbrev pub IsRight : Entry → Type 0
 IsRight entry = (is_name entry.name ≡ true) × All (λ path. is_path path ≡ true) entry.modules × All (λ name. is_name name ≡ true) entry.dependencies
 
-entry_right : (d : Data) → first_bad (target_fields d) ≡ None → IsRight (entry_of d)
-unfolding target_fields entry_of
+given_right : (found : Option Data) → bad_if_given (bad (list_of (text_where is_name))) found ≡ None → All (λ name. is_name name ≡ true) (given_texts found)
+given_right None e = All-nil (λ name. is_name name ≡ true)
+given_right (Some d) e = passed_texts is_name d e
+
+entry_right : (d : Data) → bad target d ≡ None → IsRight (entry_of d)
 entry_right d e =
-    let behind : List (Part × Bool) = module_fields d ++ (dependency_fields d ++ main_fields d) in
-    let kind : Part × Bool = (parts.Kind, is_some (kind_at d)) in
-    let name : Part × Bool = (parts.Name, holds is_name (text_at (codes "name") d)) in
-    let one = none_cons (parts.Whole, is_some (as_object d)) (name ∷ (kind ∷ behind)) e in
-    let two = none_cons name (kind ∷ behind) one.1 in
-    let three = none_cons kind behind two.1 in
-    let modules = none_append (module_fields d) (dependency_fields d ++ main_fields d) three.1 in
-    let items = none_cons (parts.Modules, is_some (list_at (codes "modules") d)) (item_fields parts.Module is_path 0 (items_at (codes "modules") d)) modules.0 in
-    let dependencies = none_append (dependency_fields d) (main_fields d) modules.1 in
-    let list : Part × Bool = (parts.Dependencies, cond (is_some (get (codes "dependencies") d)) (is_some (list_at (codes "dependencies") d)) true) in
-    let names = none_cons list (item_fields parts.Dependency is_name 0 (items_at (codes "dependencies") d)) dependencies.0 in (
-      held_text is_name (text_at (codes "name") d) two.0,
-      items_right parts.Module is_path 0 (items_at (codes "modules") d) items.1,
-      items_right parts.Dependency is_name 0 (items_at (codes "dependencies") d) names.1,
+    let name = under (member_step (codes "name")) (bad (text_where is_name) (at (codes "name") d)) in
+    let kind = under (member_step (codes "kind")) (bad (text_where is_kind) (at (codes "kind") d)) in
+    let modules = under (member_step (codes "modules")) (bad (list_of (text_where is_path)) (at (codes "modules") d)) in
+    let dependencies = under (member_step (codes "dependencies")) (bad_if_given (bad (list_of (text_where is_name))) (get (codes "dependencies") d)) in
+    let whole = none_first (bad_unless (is_some (as_object d))) (bad_field target_fields d) e in
+    let one = none_first name (bad_field kind_fields d) whole.1 in
+    let two = none_first kind (bad_field module_fields d) one.1 in
+    let three = none_first modules (bad_field dependency_fields d) two.1 in
+    let four = none_first dependencies (bad_field main_fields d) three.1 in (
+      passed_text is_name (as_str (at (codes "name") d)) (none_under (member_step (codes "name")) (bad (text_where is_name) (at (codes "name") d)) one.0),
+      passed_texts is_path (at (codes "modules") d) (none_under (member_step (codes "modules")) (bad (list_of (text_where is_path)) (at (codes "modules") d)) three.0),
+      given_right (get (codes "dependencies") d)
+          (none_under (member_step (codes "dependencies")) (bad_if_given (bad (list_of (text_where is_name))) (get (codes "dependencies") d)) four.0),
     )
 
-entries_right : (n : ℕ) (ds : List Data) → first_bad (targets_fields n ds) ≡ None → All IsRight (map entry_of ds)
-entries_right n [] e = All-nil IsRight
-entries_right n (d ∷ ds) e =
-    let h = none_append (map (λ f. (part_path n f.0, f.1)) (target_fields d)) (targets_fields (suc n) ds) e in
-    All-cons IsRight (entry_of d) (map entry_of ds)
-    (entry_right d (none_map (part_path n) (first_bad (target_fields d)) (sym (first_bad-map (part_path n) (target_fields d)) ∙ h.0)))
-    (entries_right (suc n) ds h.1)
+entries_right : (index : ℕ) (ds : List Data) → bad_item (bad target) index ds ≡ None → All IsRight (map entry_of ds)
+entries_right index [] e = All-nil IsRight
+entries_right index (d ∷ ds) e =
+    let h = none_first (under (item_step index) (bad target d)) (bad_item (bad target) (index + 1) ds) e in
+    All-cons IsRight (entry_of d) (map entry_of ds) (entry_right d (none_under (item_step index) (bad target d) h.0)) (entries_right (index + 1) ds h.1)
 
-file_right : (d : Data) → first_bad (file_fields d) ≡ None → All IsRight (entries_of d)
-unfolding file_fields
+none_named : (own : List ℕ) (found : Option (List ℕ)) → option_map (named_path own) found ≡ None → found ≡ None
+none_named own None e = refl
+none_named own (Some path) e = absurd (cc)
+
+file_right : (d : Data) → bad_file d ≡ None → All IsRight (entries_of d)
 file_right d e =
-    let targets : List (List ℕ × Bool) = targets_fields 0 (items_at (codes "targets") d) in
-    let list : List ℕ × Bool = (codes "targets", is_some (list_at (codes "targets") d)) in
-    let version : List ℕ × Bool = (codes "version", is_version (get (codes "version") d)) in
-    let one = none_cons (codes "$", is_some (as_object d)) (version ∷ (list ∷ targets)) e in
-    let two = none_cons version (list ∷ targets) one.1 in
-    let three = none_cons list targets two.1 in
-    entries_right 0 (items_at (codes "targets") d) three.1
+    let list = at (codes "targets") d in
+    let version = under (member_step (codes "version")) (bad (whole 1 1) (at (codes "version") d)) in
+    let targets = under (member_step (codes "targets")) (bad (list_of target) list) in
+    let one = none_first (bad_unless (is_some (as_object d))) (bad_field file_fields d) (none_named (codes "$") (bad file d) e) in
+    let two = none_first version (bad_field targets_fields d) one.1 in
+    let three = none_first targets None two.1 in
+    let items = none_first (bad_unless (is_some (as_array list))) (bad_item (bad target) 0 (values_in list)) (none_under (member_step (codes "targets")) (bad (list_of target) list) three.0) in
+    entries_right 0 (values_in list) items.1
 
 passed_fields : (o : Option (List ℕ)) → ((name : List ℕ) → ¬ (o ≡ Some name)) → o ≡ None
 passed_fields None none = refl
@@ -112,21 +87,21 @@ held_right held passed = go (value_in held) refl
     go None e = subst (λ (es : List Entry). All IsRight es) (sym (none_in held e)) (All-nil IsRight)
     go (Some d) e =
         subst (λ (es : List Entry). All IsRight es) (sym (entries_of_value held d e))
-        (file_right d (passed_fields (first_bad (file_fields d)) (λ name f. passed kinds.BadField name (omega arith) (bad_of_value held d e ∙ f))))
+        (file_right d (passed_fields (bad_file d) (λ name f. passed kinds.BadField name (omega arith) (bad_of_value held d e ∙ f))))
 
--- ---- places
+-- ---- indices
 
-pub place_within : (names : List (List ℕ)) (x : List ℕ) → list_any (bytes_eq x) names ≡ true → place_of names x < length names
-place_within [] x e = absurd (false≢true e)
-place_within (y ∷ ys) x e = go (bytes_eq x y) e (place_within ys x)
+pub index_within : (names : List (List ℕ)) (x : List ℕ) → list_any (bytes_eq x) names ≡ true → index_of names x < length names
+index_within [] x e = absurd (false≢true e)
+index_within (y ∷ ys) x e = go (bytes_eq x y) e (index_within ys x)
   where
-    go : (b : Bool) → (b || list_any (bytes_eq x) ys) ≡ true → (list_any (bytes_eq x) ys ≡ true → place_of ys x < length ys)
+    go : (b : Bool) → (b || list_any (bytes_eq x) ys) ≡ true → (list_any (bytes_eq x) ys ≡ true → index_of ys x < length ys)
         → cond (not b) (1 + prefix_len (λ z. not (bytes_eq x z)) ys) 0 < length (y ∷ ys)
     go true h rest = omega arith
     go false h rest = (let k = rest h in omega arith)
 
-places_within : (names : List (List ℕ)) (xs : List (List ℕ)) → All (Contains names) xs → All (λ place. place < length names) (map (place_of names) xs)
-places_within names xs known = All-map (λ place. place < length names) (place_of names) xs (λ k d h. place_within names (get_or xs k d) (listed_any names (get_or xs k d) (known k d h)))
+indices_within : (names : List (List ℕ)) (xs : List (List ℕ)) → All (Contains names) xs → All (λ index. index < length names) (map (index_of names) xs)
+indices_within names xs known = All-map (λ index. index < length names) (index_of names) xs (λ k d h. index_within names (get_or xs k d) (listed_any names (get_or xs k d) (known k d h)))
 
 pub parts_of_all : (P : List ℕ → Type 0) (xs ys : List (List ℕ)) → All P (xs ++ ys) → All P xs × All P ys
 parts_of_all P [] ys h = (All-nil P, h)
@@ -170,8 +145,8 @@ dependencies_count : (names : List (List ℕ)) (entries : List Entry)
 dependencies_count names [] = refl
 dependencies_count names (e ∷ es) =
     let rest = dependencies_count names es in
-    let a = length-append (map (place_of names) e.dependencies) (flat_map (λ (t : Target). t.dependencies) (map (target_of names) es)) in
-    let b = length-map e.dependencies (place_of names) in
+    let a = length-append (map (index_of names) e.dependencies) (flat_map (λ (t : Target). t.dependencies) (map (target_of names) es)) in
+    let b = length-map e.dependencies (index_of names) in
     let c = length-append e.dependencies (dependencies_of es) in
     omega (arith, rest, a, b, c)
 
@@ -213,9 +188,9 @@ sound_of held listing is =
     let names : length keys ≡ length entries = ap (λ (xs : List (List ℕ)). length xs) is.index.same ∙ length-map entries (λ (e : Entry). e.name) in
     let known = known_of keys entries is.resolved.known in
     subst (λ (ts : List Target). IsSoundOf keys ts) (sym is.resolved.each) (record {
-      closed = All-map (λ (t : Target). All (λ place. place < length targets) t.dependencies) (target_of keys) entries
-          (λ k d h. subst (λ n. All (λ place. place < n) (map (place_of keys) (get_or entries k d).dependencies)) (names ∙ sym size)
-          (places_within keys (get_or entries k d).dependencies (known k d h)));
+      closed = All-map (λ (t : Target). All (λ index. index < length targets) t.dependencies) (target_of keys) entries
+          (λ k d h. subst (λ n. All (λ index. index < n) (map (index_of keys) (get_or entries k d).dependencies)) (names ∙ sym size)
+          (indices_within keys (get_or entries k d).dependencies (known k d h)));
       valid = valid_of keys entries (held_right held (λ kind name h. is.passed kind name (omega arith)));
       few = (let a = few.targets in omega arith);
       few_pairs = (let a = few.modules in let b = pairs_count keys 0 entries in omega arith);

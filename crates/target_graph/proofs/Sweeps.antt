@@ -19,21 +19,21 @@ use Rattle.target_graph.proofs.WalkLaws.{no_marks, only, itself, mark_leads, lea
 
 -- ---- one row, made of others
 
-module _ (rows : List (List Bool)) (place : ℕ) where
-  pub joined_none : place < length rows → IsJoined rows place [] (set (replicate (length rows) false) place true)
+module _ (rows : List (List Bool)) (index : ℕ) where
+  pub joined_none : index < length rows → IsJoined rows index [] (set (replicate (length rows) false) index true)
   joined_none h = record {
-    size = length-set none place true ∙ length-replicate (length rows) false;
-    own = get_or-set_same none place true false (subst (λ n. place < n) (sym (length-replicate (length rows) false)) h);
-    shown = λ b m. inl (by b m (cases_eq b place));
+    size = length-set none index true ∙ length-replicate (length rows) false;
+    own = get_or-set_same none index true false (subst (λ n. index < n) (sym (length-replicate (length rows) false)) h);
+    shown = λ b m. inl (by b m (cases_eq b index));
     whole = λ b m. absurd (let c = m.listed in let k : c.0 < 0 = c.1 in omega arith);
   }
     where
       none : List Bool
       none = replicate (length rows) false
 
-      by : (b : ℕ) → has_met (set none place true) b ≡ true → (b ≡ place) ⊎ (b ≡ place → ⊥) → b ≡ place
+      by : (b : ℕ) → has_met (set none index true) b ≡ true → (b ≡ index) ⊎ (b ≡ index → ⊥) → b ≡ index
       by b m (inl e) = e
-      by b m (inr n) = absurd (false≢true (sym (no_marks (length rows) b) ∙ (sym (get_or-set_other none place b true false n) ∙ m)))
+      by b m (inr n) = absurd (false≢true (sym (no_marks (length rows) b) ∙ (sym (get_or-set_other none index b true false n) ∙ m)))
 
   or_cases : (a b : Bool) → (a || b) ≡ true → (a ≡ true) ⊎ (b ≡ true)
   or_cases true b e = inl refl
@@ -47,24 +47,24 @@ module _ (rows : List (List Bool)) (place : ℕ) where
   or_right true b e = refl
   or_right false b e = e
 
-  pub joined_more : (places : List ℕ) (other : ℕ) (row more : List Bool) → IsJoined rows place places row → length more ≡ length row
-      → ((b : ℕ) → has_met more b ≡ (has_met row b || has_met (row_at rows other) b)) → IsJoined rows place (places ++ other ∷ []) more
-  joined_more places other row more j size marks = record {
+  pub joined_more : (indices : List ℕ) (other : ℕ) (row more : List Bool) → IsJoined rows index indices row → length more ≡ length row
+      → ((b : ℕ) → has_met more b ≡ (has_met row b || has_met (row_at rows other) b)) → IsJoined rows index (indices ++ other ∷ []) more
+  joined_more indices other row more j size marks = record {
     size = size ∙ j.size;
-    own = marks place ∙ or_left (has_met row place) (has_met (row_at rows other) place) j.own;
+    own = marks index ∙ or_left (has_met row index) (has_met (row_at rows other) index) j.own;
     shown = λ b m. shown b (or_cases (has_met row b) (has_met (row_at rows other) b) (sym (marks b) ∙ m));
-    whole = λ b m. marks b ∙ whole b m (Contains-push_cases places other m.from m.listed);
+    whole = λ b m. marks b ∙ whole b m (Contains-push_cases indices other m.from m.listed);
   }
     where
-      kept : (b : ℕ) → (b ≡ place) ⊎ HasMark rows places b → (b ≡ place) ⊎ HasMark rows (places ++ other ∷ []) b
+      kept : (b : ℕ) → (b ≡ index) ⊎ HasMark rows indices b → (b ≡ index) ⊎ HasMark rows (indices ++ other ∷ []) b
       kept b (inl e) = inl e
-      kept b (inr m) = inr (record { from = m.from; listed = Contains-append_left places (other ∷ []) m.from m.listed; mark = m.mark })
+      kept b (inr m) = inr (record { from = m.from; listed = Contains-append_left indices (other ∷ []) m.from m.listed; mark = m.mark })
 
-      shown : (b : ℕ) → (has_met row b ≡ true) ⊎ (has_met (row_at rows other) b ≡ true) → (b ≡ place) ⊎ HasMark rows (places ++ other ∷ []) b
+      shown : (b : ℕ) → (has_met row b ≡ true) ⊎ (has_met (row_at rows other) b ≡ true) → (b ≡ index) ⊎ HasMark rows (indices ++ other ∷ []) b
       shown b (inl m) = kept b (j.shown b m)
-      shown b (inr m) = inr (record { from = other; listed = Contains-push places other; mark = m })
+      shown b (inr m) = inr (record { from = other; listed = Contains-push indices other; mark = m })
 
-      whole : (b : ℕ) (m : HasMark rows (places ++ other ∷ []) b) → Contains places m.from ⊎ (other ≡ m.from) → (has_met row b || has_met (row_at rows other) b) ≡ true
+      whole : (b : ℕ) (m : HasMark rows (indices ++ other ∷ []) b) → Contains indices m.from ⊎ (other ≡ m.from) → (has_met row b || has_met (row_at rows other) b) ≡ true
       whole b m (inl c) = or_left (has_met row b) (has_met (row_at rows other) b) (j.whole b (record { from = m.from; listed = c; mark = m.mark }))
       whole b m (inr e) = or_right (has_met row b) (has_met (row_at rows other) b) (subst (λ x. has_met (row_at rows x) b ≡ true) (sym e) m.mark)
 
@@ -227,12 +227,12 @@ module _ (targets : List Target) where
       (Contains-list_any _ (λ a b. (Decides-eqb a b).0) xs q is)) in
       absurd (omega (arith, few, starts_size t deep.way, deep.size))
 
--- ---- whether all targets below a place have their rows
+-- ---- whether all targets below an index have their rows
 
 pub record IsLeftTo (rows : List (List Bool)) (at : ℕ) : Type 0 where
-  pub place : ℕ
-  pub within : place < at
-  pub unmade : ¬ (IsMade rows place)
+  pub index : ℕ
+  pub within : index < at
+  pub unmade : ¬ (IsMade rows index)
 
 abbrev pub IsWholeTo : List (List Bool) → ℕ → Bool → Type 0
 IsWholeTo rows at true = (t : ℕ) → t < at → IsMade rows t
@@ -246,7 +246,7 @@ none_empty (suc n) e = omega arith
 pub all_empty : (n : ℕ) → (n == 0) ≡ true → ¬ (0 < n)
 all_empty n e h = (let z : n ≡ 0 = (Decides-eqb n 0).0 e in absurd (omega arith))
 
--- ---- in the middle of a sweep, which has come to a place
+-- ---- in the middle of a sweep, which has come to an index
 
 pub record IsSwept (targets : List Target) (old rows : List (List Bool)) (at : ℕ) (whole : Bool) : Type 0 where
   pub are_rows : AreRows targets rows
@@ -264,7 +264,7 @@ module _ (targets : List Target) (old : List (List Bool)) where
   }
 
   left_still : (rows more : List (List Bool)) (at : ℕ) → IsLeftTo rows at → ((x : ℕ) → x < at → ¬ (IsMade rows x) → ¬ (IsMade more x)) → IsLeftTo more (at + 1)
-  left_still rows more at l keeps = record { place = l.place; within = (let w = l.within in omega arith); unmade = keeps l.place l.within l.unmade }
+  left_still rows more at l keeps = record { index = l.index; within = (let w = l.within in omega arith); unmade = keeps l.index l.within l.unmade }
 
   whole_more : (rows more : List (List Bool)) (at : ℕ) (whole : Bool) → IsWholeTo rows at whole → IsMade more at → ((x : ℕ) → IsMade rows x → IsMade more x)
       → ((x : ℕ) → x < at → ¬ (IsMade rows x) → ¬ (IsMade more x)) → IsWholeTo more (at + 1) whole
@@ -283,7 +283,7 @@ module _ (targets : List Target) (old : List (List Bool)) where
       by (inl e) = subst (IsDeep targets (suc n)) (sym e) (here (λ m. u (subst (IsMade more) (sym e) m)))
       by (inr o) = before t (omega arith) (λ m. u (grows t m))
 
-  -- the row at the place was there
+  -- the row at the index was there
   pub swept_made : (rows : List (List Bool)) (at : ℕ) (whole : Bool) → IsSwept targets old rows at whole → IsMade rows at → IsSwept targets old rows (at + 1) whole
   swept_made rows at whole s here = record {
     are_rows = s.are_rows;
@@ -299,7 +299,7 @@ module _ (targets : List Target) (old : List (List Bool)) where
     are_rows = s.are_rows;
     deep = s.deep;
     deeper = λ n deep. deeper_more rows rows at n (s.deeper n deep) (λ u. deep_more targets n at d direct (s.deep n deep d h left)) (λ x m. m);
-    is_whole = record { place = at; within = omega arith; unmade = unmade };
+    is_whole = record { index = at; within = omega arith; unmade = unmade };
   }
 
   -- it was made
@@ -329,4 +329,4 @@ module _ (targets : List Target) (old : List (List Bool)) where
     where
       by : (whole : Bool) → IsWholeTo rows at whole → IsWhole targets rows whole
       by true w = λ t h. w t (omega arith)
-      by false w = record { place = w.place; within = (let l = w.within in omega arith); unmade = w.unmade }
+      by false w = record { index = w.index; within = (let l = w.within in omega arith); unmade = w.unmade }

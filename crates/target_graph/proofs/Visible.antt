@@ -13,7 +13,7 @@ use Rattle.target_graph.specs.Names.{stem}
 use Rattle.target_graph.specs.Workspace.{pairs_of, stems_of, stem_at, Sees, IsVisible}
 use Rattle.target_graph.specs.Stems.{IsNumbering, AreGroups, IsSeen}
 use Rattle.target_graph.specs.Walk.{AreMarks}
-use Rattle.target_graph.proofs.SeenStems.{same_place, sees_seen, seen_sees}
+use Rattle.target_graph.proofs.SeenStems.{same_index, sees_seen, seen_sees}
 
 within_stems : (targets : List Target) (t p : ℕ) → Sees targets t p → p < length (stems_of (pairs_of targets))
 within_stems targets t p s =
@@ -39,7 +39,7 @@ group_shows targets keys numbers groups t marks name number None n g m h e some 
   tt,
   λ p v.
       let in' = within_stems targets t p v.sees in
-      let same = same_place keys (get_or numbers p 0) number n.distinct (n.within p in') h (key_of targets keys numbers t p n v.sees ∙ (v.named ∙ sym e)) in
+      let same = same_index keys (get_or numbers p 0) number n.distinct (n.within p in') h (key_of targets keys numbers t p n v.sees ∙ (v.named ∙ sym e)) in
       let listed = subst (λ k. Contains (get_or groups k []) p) same (g.whole p (omega (arith, in', n.size))) in
       All-contains (λ q. ¬ (IsSeen marks (pairs_of targets) q)) (get_or groups number []) p none listed (sees_seen targets t marks m p v.sees),
 )

@@ -119,12 +119,12 @@ meet_all_marks met (t ∷ ts) b h (suc i, k, e) =
     (subst (λ n. All (λ x. x < n) ts) (sym (length-set met.marks t true)) (All-tail (λ t. t < length met.marks) t ts h))
     (i, omega arith, e)
 
--- ---- what is known in the middle of a walk, whose order was followed up to a place
+-- ---- what is known in the middle of a walk, whose order was followed up to an index
 
 pub record IsOnWay (targets : List Target) (asked : List ℕ) (met : Met) (at : ℕ) : Type 0 where
   pub walk : IsWalk targets asked met
   pub asked_for : (b : ℕ) → Contains asked b → has_met met.marks b ≡ true
-  pub place : at ≤ length met.order
+  pub index : at ≤ length met.order
   pub followed : (k b : ℕ) → k < at → IsDirect targets (get_or met.order k 0) b → has_met met.marks b ≡ true
 
 abbrev pub first_met : ℕ → Met
@@ -170,11 +170,11 @@ pub set_off : (targets : List Target) (asked : List ℕ) → All (λ t. t < leng
 set_off targets asked h = record {
   walk = meet_all_keeps targets asked (first_met (length targets)) asked (no_walk targets asked) h (asked_reached targets asked);
   asked_for = λ b c. meet_all_marks (first_met (length targets)) asked b (subst (λ n. All (λ x. x < n) asked) (sym (length-replicate (length targets) false)) h) c;
-  place = omega arith;
+  index = omega arith;
   followed = λ k b l direct. absurd (omega arith);
 }
 
--- the target at a place of the order
+-- the target at an index of the order
 pub met_within : (targets : List Target) (asked : List ℕ) (met : Met) (at : ℕ) (t : ℕ) → IsOnWay targets asked met at → at < length met.order → t ≡ get_or met.order at t → t < length targets
 met_within targets asked met at t w h e =
     let c : Contains met.order t = (at, h, sym e) in
@@ -186,7 +186,7 @@ pub go_on : (targets : List Target) (asked : List ℕ) (met : Met) (at t : ℕ) 
 go_on targets asked met at t target closed w h e there = record {
   walk = meet_all_keeps targets asked met deps w.walk inside reached;
   asked_for = λ b c. grows.keeps b (w.asked_for b c);
-  place = omega (arith, ap length grows.order, length-append met.order grows.more);
+  index = omega (arith, ap length grows.order, length-append met.order grows.more);
   followed = λ k b l direct. by k b l direct (cases_eq k at);
 }
   where
@@ -215,8 +215,8 @@ go_on targets asked met at t target closed w h e there = record {
     by : (k b : ℕ) → k < at + 1 → IsDirect targets (get_or (meet_all met deps).order k 0) b → (k ≡ at) ⊎ (k ≡ at → ⊥) → has_met (meet_all met deps).marks b ≡ true
     by k b l direct (inr n) = grows.keeps b (w.followed k b (omega arith) (subst (λ x. IsDirect targets x b) (same k (omega arith)) direct))
     by k b l direct (inl i) =
-        let place : get_or (meet_all met deps).order k 0 ≡ t = same k (omega arith) ∙ (ap (λ x. get_or met.order x 0) i ∙ (get_or_default met.order at 0 t h ∙ sym e)) in
-        let again : slice_get targets t ≡ Some direct.target = ap (slice_get targets) (sym place) ∙ direct.there in
+        let index : get_or (meet_all met deps).order k 0 ≡ t = same k (omega arith) ∙ (ap (λ x. get_or met.order x 0) i ∙ (get_or_default met.order at 0 t h ∙ sym e)) in
+        let again : slice_get targets t ≡ Some direct.target = ap (slice_get targets) (sym index) ∙ direct.there in
         let one : direct.target ≡ target = same_Some direct.target target (sym again ∙ here) in
         meet_all_marks met deps b (subst (λ n. All (λ x. x < n) deps) (sym w.walk.size) inside)
         (subst (λ (x : Target). Contains x.dependencies b) one direct.listed)

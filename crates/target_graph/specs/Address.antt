@@ -5,8 +5,7 @@ use Rattle.std.specs.List.{list_all}
 use Rattle.std.specs.Result.{result_ok}
 use Rattle.url.specs.Parts.{Parts, serialize, cannot_be_a_base}
 use Rattle.url.specs.Parser.{parse_url}
-use Rattle.target_graph.specs.declared.address.TheConstants.{ADDRESS_LIMIT}
-use Rattle.target_graph.specs.declared.root.TheConstants.{ROOT_LIMIT}
+use Rattle.target_graph.specs.Limits.{address_limit, root_limit}
 use Rattle.target_graph.specs.Plain.{IsPlain}
 
 -- the text that url prints for an address that it reads
@@ -23,7 +22,7 @@ is_plain url = not (cannot_be_a_base url) && not (is_some url.query) && not (is_
 
 -- the root, where it is no longer than its limit and holds printing ASCII characters alone, without blanks
 abbrev pub plain_root : List ℕ → Option (List ℕ)
-plain_root root = if nat_le (length root) ROOT_LIMIT && list_all is_ascii_graphic root then Some root else None
+plain_root root = if nat_le (length root) root_limit && list_all is_ascii_graphic root then Some root else None
 
 abbrev pub root_of_url : Parts → Option (List ℕ)
 root_of_url url = if is_plain url then plain_root (with_slash (serialize url)) else None
@@ -45,7 +44,7 @@ document_address root path = root ++ path
 
 -- what ids and addresses are
 abbrev pub IsPlainAddress : List ℕ → Type 0
-IsPlainAddress text = IsPlain ADDRESS_LIMIT text
+IsPlainAddress text = IsPlain address_limit text
 
 -- The address that comes in is spelled so, or url prints it so.
 abbrev pub IsSpelling : List ℕ → List ℕ → Type 0

@@ -36,9 +36,9 @@ pub record AreRows (targets : List Target) (rows : List (List Bool)) : Type 0 wh
 
 -- every target has its row, or some target has none
 pub record IsLeft (targets : List Target) (rows : List (List Bool)) : Type 0 where
-  pub place : ℕ
-  pub within : place < length targets
-  pub unmade : ¬ (IsMade rows place)
+  pub index : ℕ
+  pub within : index < length targets
+  pub unmade : ¬ (IsMade rows index)
 
 abbrev pub IsWhole : List Target → List (List Bool) → Bool → Type 0
 IsWhole targets rows true = (t : ℕ) → t < length targets → IsMade rows t
@@ -55,21 +55,21 @@ pub record IsDeep (targets : List Target) (n t : ℕ) : Type 0 where
 abbrev pub AreDeep : List Target → ℕ → List (List Bool) → Type 0
 AreDeep targets n rows = (t : ℕ) → t < length targets → ¬ (IsMade rows t) → IsDeep targets n t
 
--- one of the rows at these places isn't made
-pub record IsOneLeft (rows : List (List Bool)) (places : List ℕ) : Type 0 where
+-- one of the rows at these indices isn't made
+pub record IsOneLeft (rows : List (List Bool)) (indices : List ℕ) : Type 0 where
   pub from : ℕ
-  pub listed : Contains places from
+  pub listed : Contains indices from
   pub unmade : ¬ (IsMade rows from)
 
--- one of the rows at these places has a mark there
-pub record HasMark (rows : List (List Bool)) (places : List ℕ) (b : ℕ) : Type 0 where
+-- one of the rows at these indices has a mark there
+pub record HasMark (rows : List (List Bool)) (indices : List ℕ) (b : ℕ) : Type 0 where
   pub from : ℕ
-  pub listed : Contains places from
+  pub listed : Contains indices from
   pub mark : has_met (row_at rows from) b ≡ true
 
--- the row has the marks of the rows at these places, and a mark of its own
-pub record IsJoined (rows : List (List Bool)) (place : ℕ) (places : List ℕ) (row : List Bool) : Type 0 where
+-- the row has the marks of the rows at these indices, and a mark of its own
+pub record IsJoined (rows : List (List Bool)) (index : ℕ) (indices : List ℕ) (row : List Bool) : Type 0 where
   pub size : length row ≡ length rows
-  pub own : has_met row place ≡ true
-  pub shown : (b : ℕ) → has_met row b ≡ true → (b ≡ place) ⊎ HasMark rows places b
-  pub whole : (b : ℕ) → HasMark rows places b → has_met row b ≡ true
+  pub own : has_met row index ≡ true
+  pub shown : (b : ℕ) → has_met row b ≡ true → (b ≡ index) ⊎ HasMark rows indices b
+  pub whole : (b : ℕ) → HasMark rows indices b → has_met row b ≡ true

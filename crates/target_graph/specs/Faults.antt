@@ -7,14 +7,14 @@ use Rattle.ob_text.specs.declared.held.Held.{Held}
 use Rattle.ob_text.specs.declared.held.Held.TheVariants as helds
 use Rattle.serde_json.specs.Data.{Data}
 use Rattle.serde_json.specs.Read.{read}
+use Rattle.target_graph.specs.Limits.{dependencies_limit, pairs_limit, targets_limit}
 use Rattle.target_graph.specs.declared.entry.Entry.{Entry}
 use Rattle.target_graph.specs.declared.fault.FaultKind.{FaultKind}
 use Rattle.target_graph.specs.declared.fault.FaultKind.TheVariants as kinds
 use Rattle.target_graph.specs.declared.fault.WorkspaceRefusal.{WorkspaceRefusal}
 use Rattle.target_graph.specs.declared.fault.WorkspaceRefusal.TheVariants as refusals
-use Rattle.target_graph.specs.declared.listing.TheConstants.{TARGET_LIMIT, PAIR_LIMIT, DEPENDENCY_LIMIT}
 use Rattle.target_graph.specs.declared.target.Target.{Target}
-use Rattle.target_graph.specs.File.{entries_of, file_fields, first_bad}
+use Rattle.target_graph.specs.File.{bad_file, entries_of}
 use Rattle.target_graph.specs.Names.{IsPlainName}
 use Rattle.target_graph.specs.Workspace.{Space, Circles, Sees, stem_at}
 
@@ -45,17 +45,17 @@ modules_of entries = flat_map (λ entry. entry.modules) entries
 abbrev pub dependencies_of : List Entry → List (List ℕ)
 dependencies_of entries = flat_map (λ entry. entry.dependencies) entries
 
--- the place of a name
-abbrev pub place_of : List (List ℕ) → List ℕ → ℕ
-place_of names name = position_or_len (bytes_eq name) names
+-- the index of a name
+abbrev pub index_of : List (List ℕ) → List ℕ → ℕ
+index_of names name = position_or_len (bytes_eq name) names
 
--- a target, its dependencies by their places
+-- a target, its dependencies by their indices
 abbrev pub target_of : List (List ℕ) → Entry → Target
 target_of names entry = record {
   name = entry.name;
   kind = entry.kind;
   modules = entry.modules;
-  dependencies = map (place_of names) entry.dependencies;
+  dependencies = map (index_of names) entry.dependencies;
   main = entry.main;
 }
 
@@ -70,9 +70,9 @@ targets_in held = targets_of (entries_in held)
 -- of what there are too many
 abbrev pub too_many : List Entry → Option (List ℕ)
 too_many entries =
-    if nat_lt TARGET_LIMIT (length entries) then Some (codes "targets") else
-    if nat_lt PAIR_LIMIT (length (modules_of entries)) then Some (codes "modules") else
-    if nat_lt DEPENDENCY_LIMIT (length (dependencies_of entries)) then Some (codes "dependencies") else None
+    if nat_lt targets_limit (length entries) then Some (codes "targets") else
+    if nat_lt pairs_limit (length (modules_of entries)) then Some (codes "modules") else
+    if nat_lt dependencies_limit (length (dependencies_of entries)) then Some (codes "dependencies") else None
 
 -- the first name that an earlier one equals
 pub record IsFirstRepeat (names : List (List ℕ)) (name : List ℕ) : Type 0 where
@@ -92,35 +92,35 @@ pub record IsFirstUnknown (names dependencies : List (List ℕ)) (name : List �
 
 -- the name of the first target that depends on itself
 pub record IsFirstCycle (targets : List Target) (name : List ℕ) : Type 0 where
-  pub place : ℕ
+  pub index : ℕ
   pub target : Target
-  pub there : slice_get targets place ≡ Some target
+  pub there : slice_get targets index ≡ Some target
   pub named : target.name ≡ name
-  pub circles : Circles targets place
-  pub first : (earlier : ℕ) → earlier < place → ¬ (Circles targets earlier)
+  pub circles : Circles targets index
+  pub first : (earlier : ℕ) → earlier < index → ¬ (Circles targets earlier)
 
 -- a pair that the target sees has the stem of an earlier one
-pub record IsRepeat (targets : List Target) (place q : ℕ) : Type 0 where
+pub record IsRepeat (targets : List Target) (index q : ℕ) : Type 0 where
   pub earlier : ℕ
   pub before : earlier < q
-  pub sees_earlier : Sees targets place earlier
-  pub sees : Sees targets place q
+  pub sees_earlier : Sees targets index earlier
+  pub sees : Sees targets index q
   pub same : stem_at targets earlier ≡ stem_at targets q
 
 -- the stem of the first pair that has an earlier one's stem, for the first target that sees two such pairs
 pub record IsFirstStemTwice (targets : List Target) (name : List ℕ) : Type 0 where
-  pub place : ℕ
+  pub index : ℕ
   pub pair : ℕ
-  pub repeats : IsRepeat targets place pair
+  pub repeats : IsRepeat targets index pair
   pub named : stem_at targets pair ≡ name
-  pub first_pair : (q : ℕ) → q < pair → ¬ (IsRepeat targets place q)
-  pub first_target : (earlier : ℕ) → earlier < place → (q : ℕ) → ¬ (IsRepeat targets earlier q)
+  pub first_pair : (q : ℕ) → q < pair → ¬ (IsRepeat targets index q)
+  pub first_target : (earlier : ℕ) → earlier < index → (q : ℕ) → ¬ (IsRepeat targets earlier q)
 
 -- The fault stands in the file, and is about this name.
 abbrev pub IsFault : Held → FaultKind → List ℕ → Type 0
 IsFault held kinds.NoFile name = (text_in held ≡ None) × (name ≡ [])
 IsFault held kinds.BadJson name = (value_in held ≡ None) × (name ≡ [])
-IsFault held kinds.BadField name = option_and_then (λ d. first_bad (file_fields d)) (value_in held) ≡ Some name
+IsFault held kinds.BadField name = option_and_then bad_file (value_in held) ≡ Some name
 IsFault held kinds.TooMany name = too_many (entries_in held) ≡ Some name
 IsFault held kinds.NameTwice name = IsFirstRepeat (names_of (entries_in held)) name
 IsFault held kinds.UnknownDependency name = IsFirstUnknown (names_of (entries_in held)) (dependencies_of (entries_in held)) name

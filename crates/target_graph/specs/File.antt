@@ -1,45 +1,16 @@
--- What a workspace file says, over what `serde_json` reads, and the fields that it must have. A text is its bytes.
-use Rattle.std.specs.Prelude.{ℕ, suc, ◌<◌, ◌^◌, ◌==◌, Bool, true, false, List, [], ◌∷◌, ◌++◌, map, codes, decimal, Option, None, Some, is_some, unwrap_or, option_map, option_and_then, if◌then◌else◌}
-use Rattle.std.specs.Option.{option_map_or}
+-- What a workspace file has to look like, over what `serde_json` reads, and what it says. A text is its bytes.
+use Rattle.std.specs.Prelude.{ℕ, Bool, true, false, List, [], map, codes, Option, None, Some, is_some, unwrap_or, option_map, option_and_then, if◌then◌else◌}
 use Rattle.std.specs.List.{list_any}
 use Rattle.std.specs.Str.{bytes_eq}
-use Rattle.serde_json.specs.Data.{Data, Items, no_items, item}
-use Rattle.serde_json.specs.Find.{get, as_array, as_number, as_object, as_str, as_u64}
+use Rattle.serde_json.specs.Data.{Data}
+use Rattle.serde_json.specs.Find.{as_str, get}
+use Rattle.json_shape.specs.Shapes.{Fields, Shape, at, bad_named, if_given, list_of, no_more, object_of, passes, passing, required, text_in, text_where, values_in, whole}
 use Rattle.target_graph.specs.declared.entry.Entry.{Entry}
-use Rattle.target_graph.specs.declared.fields.Part.{Part}
-use Rattle.target_graph.specs.declared.fields.Part.TheVariants as parts
 use Rattle.target_graph.specs.declared.target.TargetKind.{TargetKind}
 use Rattle.target_graph.specs.declared.target.TargetKind.TheVariants as kinds
 use Rattle.target_graph.specs.Names.{is_name, is_path, stem}
 
--- ---- members
-
-abbrev pub data_list : Items → List Data
-data_list no_items = []
-data_list (item d ds) = d ∷ data_list ds
-
--- the member, where it is a text
-abbrev pub text_at : List ℕ → Data → Option (List ℕ)
-text_at key d = option_and_then as_str (get key d)
-
--- the member, where it is a list
-abbrev pub list_at : List ℕ → Data → Option (List Data)
-list_at key d = option_map data_list (option_and_then as_array (get key d))
-
-abbrev pub items_at : List ℕ → Data → List Data
-items_at key d = unwrap_or (list_at key d) []
-
-abbrev pub holds : (List ℕ → Bool) → Option (List ℕ) → Bool
-holds test found = option_map_or test found false
-
--- the texts of a list, where each is one
-abbrev pub text_of : Data → List ℕ
-text_of d = unwrap_or (as_str d) []
-
-abbrev pub texts_at : List ℕ → Data → List (List ℕ)
-texts_at key d = map text_of (items_at key d)
-
--- ---- a target
+-- ---- the kind of a target
 
 unfoldable pub kind_named : List ℕ → Option TargetKind
 kind_named text =
@@ -47,108 +18,81 @@ kind_named text =
     if bytes_eq text (codes "application") then Some kinds.Application else
     if bytes_eq text (codes "test") then Some kinds.Test else None
 
-abbrev pub kind_at : Data → Option TargetKind
-kind_at d = option_and_then kind_named (text_at (codes "kind") d)
+abbrev pub is_kind : List ℕ → Bool
+is_kind text = is_some (kind_named text)
+
+abbrev pub kind_in : Data → TargetKind
+kind_in d = unwrap_or (option_and_then kind_named (as_str d)) kinds.Library
+
+-- ---- the main module
 
 -- an application has a main module, and no other target has
-abbrev pub needs_main : Option TargetKind → Bool
-needs_main (Some kinds.Application) = true
-needs_main (Some kinds.Library) = false
-needs_main (Some kinds.Test) = false
-needs_main None = false
+abbrev pub needs_main : TargetKind → Bool
+needs_main kinds.Application = true
+needs_main kinds.Library = false
+needs_main kinds.Test = false
 
 -- the main module is the stem of one of these paths
 abbrev pub is_main_of : List (List ℕ) → List ℕ → Bool
 is_main_of paths main = list_any (λ path. bytes_eq main (stem path)) paths
 
--- what the file says of one target
-unfoldable pub entry_of : Data → Entry
-entry_of d = record {
-  name = unwrap_or (text_at (codes "name") d) [];
-  kind = unwrap_or (kind_at d) kinds.Library;
-  modules = texts_at (codes "modules") d;
-  dependencies = texts_at (codes "dependencies") d;
-  main = if needs_main (kind_at d) then text_at (codes "main") d else None;
-}
+abbrev pub has_its_main : TargetKind → List (List ℕ) → Option (List ℕ) → Bool
+has_its_main kind paths main = if needs_main kind then passes (is_main_of paths) main else true
 
--- ---- the fields that must be right, in the order in which they are looked at
-
--- The items of a list, each of which is a text that passes a test.
-abbrev pub item_fields : (ℕ → Part) → (List ℕ → Bool) → ℕ → List Data → List (Part × Bool)
-item_fields part test n [] = []
-item_fields part test n (d ∷ ds) = (part n, holds test (as_str d)) ∷ item_fields part test (suc n) ds
-
-abbrev pub module_fields : Data → List (Part × Bool)
-module_fields d =
-    (parts.Modules, is_some (list_at (codes "modules") d))
-    ∷ item_fields parts.Module is_path 0 (items_at (codes "modules") d)
-
--- the dependencies may be left out
-abbrev pub dependency_fields : Data → List (Part × Bool)
-dependency_fields d =
-    (parts.Dependencies, (if is_some (get (codes "dependencies") d) then is_some (list_at (codes "dependencies") d) else true))
-    ∷ item_fields parts.Dependency is_name 0 (items_at (codes "dependencies") d)
+abbrev pub texts_in : Data → List (List ℕ)
+texts_in d = map text_in (values_in d)
 
 abbrev pub has_main : Data → Bool
-has_main d = holds (is_main_of (texts_at (codes "modules") d)) (text_at (codes "main") d)
+has_main d = has_its_main (kind_in (at (codes "kind") d)) (texts_in (at (codes "modules") d)) (as_str (at (codes "main") d))
 
-abbrev pub main_fields : Data → List (Part × Bool)
-main_fields d = (parts.Main, (if needs_main (kind_at d) then has_main d else true)) ∷ []
+-- ---- what the file looks like; the dependencies may be left out
 
-unfoldable pub target_fields : Data → List (Part × Bool)
-target_fields d =
-    (parts.Whole, is_some (as_object d))
-    ∷ (parts.Name, holds is_name (text_at (codes "name") d))
-    ∷ (parts.Kind, is_some (kind_at d))
-    ∷ (module_fields d ++ (dependency_fields d ++ main_fields d))
+abbrev pub main_fields : Fields
+main_fields = passing (codes "main") has_main no_more
 
--- the path of a field of the target at a place
-abbrev pub at_index : ℕ → List ℕ
-at_index n = codes "[" ++ decimal n ++ codes "]"
+abbrev pub dependency_fields : Fields
+dependency_fields = if_given (codes "dependencies") (list_of (text_where is_name)) main_fields
 
-abbrev pub part_name : Part → List ℕ
-part_name parts.Whole = []
-part_name parts.Name = codes ".name"
-part_name parts.Kind = codes ".kind"
-part_name parts.Modules = codes ".modules"
-part_name (parts.Module k) = codes ".modules" ++ at_index k
-part_name parts.Dependencies = codes ".dependencies"
-part_name (parts.Dependency k) = codes ".dependencies" ++ at_index k
-part_name parts.Main = codes ".main"
+abbrev pub module_fields : Fields
+module_fields = required (codes "modules") (list_of (text_where is_path)) dependency_fields
 
--- an item's place is one that a list can have
-abbrev pub IsPlaced : Part → Type 0
-IsPlaced parts.Whole = Unit {0}
-IsPlaced parts.Name = Unit {0}
-IsPlaced parts.Kind = Unit {0}
-IsPlaced parts.Modules = Unit {0}
-IsPlaced (parts.Module k) = k < 2 ^ 64
-IsPlaced parts.Dependencies = Unit {0}
-IsPlaced (parts.Dependency k) = k < 2 ^ 64
-IsPlaced parts.Main = Unit {0}
+abbrev pub kind_fields : Fields
+kind_fields = required (codes "kind") (text_where is_kind) module_fields
 
-unfoldable pub part_path : ℕ → Part → List ℕ
-part_path n part = codes "targets" ++ at_index n ++ part_name part
+abbrev pub target_fields : Fields
+target_fields = required (codes "name") (text_where is_name) kind_fields
 
-abbrev pub targets_fields : ℕ → List Data → List (List ℕ × Bool)
-targets_fields n [] = []
-targets_fields n (d ∷ ds) = map (λ field. (part_path n field.0, field.1)) (target_fields d) ++ targets_fields (suc n) ds
+abbrev pub target : Shape
+target = object_of target_fields
 
-abbrev pub is_version : Option Data → Bool
-is_version found = option_map_or (λ n. n == 1) (option_and_then as_u64 (option_and_then as_number found)) false
+abbrev pub targets_fields : Fields
+targets_fields = required (codes "targets") (list_of target) no_more
 
--- The fields of a whole file, each with its path and whether it is right.
-unfoldable pub file_fields : Data → List (List ℕ × Bool)
-file_fields d =
-    (codes "$", is_some (as_object d))
-    ∷ (codes "version", is_version (get (codes "version") d))
-    ∷ (codes "targets", is_some (list_at (codes "targets") d))
-    ∷ targets_fields 0 (items_at (codes "targets") d)
+abbrev pub file_fields : Fields
+file_fields = required (codes "version") (whole 1 1) targets_fields
 
-abbrev pub first_bad : {A : Type 0} → List (A × Bool) → Option A
-first_bad [] = None
-first_bad (field ∷ fields) = if field.1 then first_bad fields else Some field.0
+abbrev pub file : Shape
+file = object_of file_fields
 
--- what the file says of its targets
+-- the path of the first bad field of a file; a file that is no object is bad at `$`
+abbrev pub bad_file : Data → Option (List ℕ)
+bad_file d = bad_named (codes "$") file d
+
+-- ---- what it says
+
+abbrev pub given_texts : Option Data → List (List ℕ)
+given_texts found = unwrap_or (option_map texts_in found) []
+
+-- of one target
+abbrev pub entry_of : Data → Entry
+entry_of d = record {
+  name = text_in (at (codes "name") d);
+  kind = kind_in (at (codes "kind") d);
+  modules = texts_in (at (codes "modules") d);
+  dependencies = given_texts (get (codes "dependencies") d);
+  main = if needs_main (kind_in (at (codes "kind") d)) then as_str (at (codes "main") d) else None;
+}
+
+-- of its targets
 abbrev pub entries_of : Data → List Entry
-entries_of d = map entry_of (items_at (codes "targets") d)
+entries_of d = map entry_of (values_in (at (codes "targets") d))

@@ -1,7 +1,7 @@
 -- What a workspace keeps beside its targets: their names and closures, the stems of their modules, and the pairs of each stem.
 use Rattle.std.specs.Prelude.{◌≡◌, ◌≢◌, ℕ, ◌≤◌, List, length, map}
 use Rattle.std.specs.List.{AllPairs, flat_map}
-use Rattle.target_graph.specs.declared.listing.TheConstants.{TARGET_LIMIT, PAIR_LIMIT, DEPENDENCY_LIMIT}
+use Rattle.target_graph.specs.Limits.{dependencies_limit, pairs_limit, targets_limit}
 use Rattle.target_graph.specs.declared.reading.Listing.{Listing}
 use Rattle.target_graph.specs.declared.target.Target.{Target}
 use Rattle.target_graph.specs.declared.workspace.Workspace.TheInside.{Inside}
@@ -18,10 +18,10 @@ space w = record { root = w.root; targets = w.targets.items }
 pub record IsSoundOf (keys : List (List ℕ)) (targets : List Target) : Type 0 where
   pub closed : AreClosed targets
   pub valid : AreValid targets
-  pub few : length targets ≤ TARGET_LIMIT
-  pub few_pairs : length (pairs_of targets) ≤ PAIR_LIMIT
-  pub few_modules : length (flat_map (λ target. target.modules) targets) ≤ PAIR_LIMIT
-  pub few_dependencies : length (flat_map (λ target. target.dependencies) targets) ≤ DEPENDENCY_LIMIT
+  pub few : length targets ≤ targets_limit
+  pub few_pairs : length (pairs_of targets) ≤ pairs_limit
+  pub few_modules : length (flat_map (λ target. target.modules) targets) ≤ pairs_limit
+  pub few_dependencies : length (flat_map (λ target. target.dependencies) targets) ≤ dependencies_limit
   pub names : keys ≡ map (λ target. target.name) targets
   pub distinct : AllPairs ◌≢◌ keys
 

@@ -16,7 +16,7 @@ pub record IsLister (targets : List Target) (own other : Option (List ℕ)) (t :
   pub there : slice_get targets t ≡ Some target
   pub lists : list_any (is_one own other) target.modules ≡ true
 
-pub record AreListers (targets : List Target) (own other : Option (List ℕ)) (places : List ℕ) : Type 0 where
-  pub ordered : AllPairs ◌<◌ places
-  pub each : All (IsLister targets own other) places
-  pub whole : (t : ℕ) → IsLister targets own other t → Contains places t
+pub record AreListers (targets : List Target) (own other : Option (List ℕ)) (indices : List ℕ) : Type 0 where
+  pub ordered : AllPairs ◌<◌ indices
+  pub each : All (IsLister targets own other) indices
+  pub whole : (t : ℕ) → IsLister targets own other t → Contains indices t

@@ -1,4 +1,4 @@
--- What reading a file gives, up to the places of the dependencies.
+-- What reading a file gives, up to the indices of the dependencies.
 use Rattle.std.specs.Prelude.{◌≡◌, ℕ, List, None, Result, Ok, Err}
 use Rattle.ob_text.specs.declared.held.Held.{Held}
 use Rattle.target_graph.specs.declared.fault.WorkspaceRefusal.{WorkspaceRefusal}
@@ -16,9 +16,9 @@ pub record IsListing (held : Held) (listing : Listing) : Type 0 where
 abbrev pub Refuses : Held → WorkspaceRefusal → Type 0
 Refuses held refusal = IsRefusal held refusal × HasPlainName refusal
 
-abbrev pub Reads : Held → Result Listing WorkspaceRefusal → Type 0
-Reads held (Ok listing) = IsListing held listing
-Reads held (Err refusal) = Refuses held refusal
+abbrev pub GivesListing : Held → Result Listing WorkspaceRefusal → Type 0
+GivesListing held (Ok listing) = IsListing held listing
+GivesListing held (Err refusal) = Refuses held refusal
 
 abbrev pub Accepts : Held → List ℕ → Result Space WorkspaceRefusal → Type 0
 Accepts held root (Ok workspace) = Accepted held root workspace

@@ -6,7 +6,7 @@ use Rattle.std.specs.Str.{bytes_eq}
 use Rattle.oberon_scan.specs.declared.token.Word.{Word}
 use Rattle.oberon_scan.specs.Finding.{find_word}
 use Rattle.oberon_scan.specs.Spelling.{spelling}
-use Rattle.target_graph.specs.declared.names.TheConstants.{NAME_LIMIT}
+use Rattle.target_graph.specs.Limits.{name_limit}
 use Rattle.target_graph.specs.Plain.{IsPlain}
 
 -- a letter, a digit, `_`, `.` or `-`
@@ -19,7 +19,7 @@ is_word text = not (length text == 0) && list_all is_name_byte text
 
 -- the name of a target
 unfoldable pub is_name : List ℕ → Bool
-is_name text = is_word text && nat_le (length text) NAME_LIMIT
+is_name text = is_word text && nat_le (length text) name_limit
 
 -- the parts of a path, between its slashes
 abbrev pub segments : List ℕ → List (List ℕ)
@@ -54,8 +54,8 @@ pub record IsModuleName (text : List ℕ) : Type 0 where
 
 -- the path of a module
 unfoldable pub is_path : List ℕ → Bool
-is_path text = nat_le (length text) NAME_LIMIT && list_all is_segment (segments text) && is_module_name (stem text)
+is_path text = nat_le (length text) name_limit && list_all is_segment (segments text) && is_module_name (stem text)
 
 -- what the names of targets, the stems of modules and the paths of a file's fields are
 abbrev pub IsPlainName : List ℕ → Type 0
-IsPlainName text = IsPlain NAME_LIMIT text
+IsPlainName text = IsPlain name_limit text

@@ -37,14 +37,14 @@ pub record IsTwice (marks : List Bool) (pairs : List Pair) (numbers : List ℕ) 
 
 -- the first such pair, by its stem
 pub record IsFirstTwice (marks : List Bool) (pairs : List Pair) (numbers : List ℕ) (name : List ℕ) : Type 0 where
-  pub place : ℕ
+  pub index : ℕ
   pub pair : Pair
-  pub there : slice_get pairs place ≡ Some pair
+  pub there : slice_get pairs index ≡ Some pair
   pub named : stem pair.path ≡ name
-  pub twice : IsTwice marks pairs numbers place
-  pub first : (q : ℕ) → q < place → ¬ (IsTwice marks pairs numbers q)
+  pub twice : IsTwice marks pairs numbers index
+  pub first : (q : ℕ) → q < index → ¬ (IsTwice marks pairs numbers q)
 
--- the places of the pairs that have each number
+-- the indices of the pairs that have each number
 pub record AreGroups (numbers : List ℕ) (width : ℕ) (groups : List (List ℕ)) : Type 0 where
   pub size : length groups ≡ width
   pub each : (n q : ℕ) → Contains (slice_index_or groups n []) q → (q < length numbers) × (slice_index numbers q ≡ n)

@@ -23,7 +23,7 @@ meet_all met targets = fold meet met targets
 
 -- each dependency of a target is a target
 abbrev pub AreClosed : List Target → Type 0
-AreClosed targets = All (λ target. All (λ place. place < length targets) target.dependencies) targets
+AreClosed targets = All (λ target. All (λ index. index < length targets) target.dependencies) targets
 
 -- the marks stand at the targets to which an asked one leads
 pub record AreMarks (targets : List Target) (asked : List ℕ) (marks : List Bool) : Type 0 where
@@ -31,8 +31,8 @@ pub record AreMarks (targets : List Target) (asked : List ℕ) (marks : List Boo
   pub reached : (b : ℕ) → has_met marks b ≡ true → IsReached targets asked b
   pub whole : (b : ℕ) → IsReached targets asked b → has_met marks b ≡ true
 
--- the places at which marks stand, in order
-pub record AreMarked (marks : List Bool) (places : List ℕ) : Type 0 where
-  pub ordered : AllPairs ◌<◌ places
-  pub each : All (λ place. has_met marks place ≡ true) places
-  pub whole : (place : ℕ) → has_met marks place ≡ true → Contains places place
+-- the indices at which marks stand, in order
+pub record AreMarked (marks : List Bool) (indices : List ℕ) : Type 0 where
+  pub ordered : AllPairs ◌<◌ indices
+  pub each : All (λ index. has_met marks index ≡ true) indices
+  pub whole : (index : ℕ) → has_met marks index ≡ true → Contains indices index

@@ -102,7 +102,7 @@ pub record Names (space : Space) (uri : List ℕ) (t : ℕ) : Type 0 where
   pub within : t < length space.targets
   pub spelled : IsSpelling uri (id_of space t)
 
--- the place of the target that has this id
+-- the index of the target that has this id
 abbrev pub with_id : Space → List ℕ → Option ℕ
 with_id space id = position (λ target. bytes_eq id (target_address space.root target.name)) space.targets
 

@@ -5,15 +5,10 @@ ghost use Rattle.std.specs.Option.{option_copied};
 ghost use Rattle.target_graph.specs.Listers as listers;
 ghost use Rattle.target_graph.specs.Listers.{AreListers};
 
-use crate::names::NAME_LIMIT;
-use crate::root::ROOT_LIMIT;
 use crate::target::Target;
 use ob_text::{NoMemory, Path, Text};
 use std::alloc::Global;
 use url::{ParseError, Url};
-
-/// The most bytes of a target's id, and of a document's address.
-pub const ADDRESS_LIMIT: usize = ROOT_LIMIT + 4 + NAME_LIMIT;
 
 /// What follows the front of a text.
 pub(crate) fn behind<'a>(text: &'a [u8], front: &[u8]) -> Option<&'a [u8]>
@@ -45,7 +40,7 @@ pub(crate) fn printed(alloc: Global, uri: &str) -> Result<Option<Text>, NoMemory
     }
 }
 
-/// The places of the targets that list one of two paths.
+/// The indices of the targets that list one of two paths.
 pub(crate) fn listing(
     alloc: Global,
     targets: &[Target],
@@ -53,17 +48,17 @@ pub(crate) fn listing(
     other: Option<&[u8]>,
 ) -> Result<Vec<u32>, NoMemory>
     requires { length targets.now < 2 ^ 32 }
-    ensures listers { IfOk result (λ places. AreListers targets.now (option_copied own.entry)
-        (option_copied other.entry) places.items) }
-    ensures few { IfOk result (λ places. length places.items ≤ length targets.now) }
+    ensures listers { IfOk result (λ indices. AreListers targets.now (option_copied own.entry)
+        (option_copied other.entry) indices.items) }
+    ensures few { IfOk result (λ indices. length indices.items ≤ length targets.now) }
 {
-    let mut places = Vec::new(alloc);
-    for place in 0..targets.len() {
-        if lists(targets[place].modules.as_slice(), own, other) {
-            places.push(place as u32)?;
+    let mut indices = Vec::new(alloc);
+    for index in 0..targets.len() {
+        if lists(targets[index].modules.as_slice(), own, other) {
+            indices.push(index as u32)?;
         }
     }
-    Ok(places)
+    Ok(indices)
 }
 
 fn lists(modules: &[Path], own: Option<&[u8]>, other: Option<&[u8]>) -> bool

@@ -15,7 +15,7 @@ pub(crate) fn empty_lists<T: Drop>(alloc: Global, count: usize) -> Result<Vec<Ve
     Ok(empty)
 }
 
-/// So many places, none of them marked.
+/// So many indices, none of them marked.
 pub(crate) fn no_marks(alloc: Global, count: usize) -> Result<Vec<bool>, NoMemory>
     ensures { IfOk result (λ marks. marks.items ≡ replicate count false) }
 {

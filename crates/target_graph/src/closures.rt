@@ -45,11 +45,11 @@ fn sweep(alloc: Global, targets: &[Target], rows: &mut Vec<Vec<bool>>) -> Result
     ensures whole { IfOk result (IsWhole targets.now (lists rows.new)) }
 {
     let mut whole = true;
-    for place in 0..targets.len() {
-        if rows[place].is_empty() {
-            let dependencies = targets[place].dependencies.as_slice();
+    for index in 0..targets.len() {
+        if rows[index].is_empty() {
+            let dependencies = targets[index].dependencies.as_slice();
             if are_made(rows.as_slice(), dependencies) {
-                rows[place] = joined(alloc, rows.as_slice(), place, dependencies)?;
+                rows[index] = joined(alloc, rows.as_slice(), index, dependencies)?;
             } else {
                 whole = false;
             }
@@ -58,34 +58,34 @@ fn sweep(alloc: Global, targets: &[Target], rows: &mut Vec<Vec<bool>>) -> Result
     Ok(whole)
 }
 
-fn are_made(rows: &[Vec<bool>], places: &[u32]) -> bool
-    requires { All (λ place. place < length rows.now) places.now }
-    ensures made { result ≡ true → All (IsMade (lists_of rows.now)) places.now }
-    ensures left { result ≡ false → IsOneLeft (lists_of rows.now) places.now }
+fn are_made(rows: &[Vec<bool>], indices: &[u32]) -> bool
+    requires { All (λ index. index < length rows.now) indices.now }
+    ensures made { result ≡ true → All (IsMade (lists_of rows.now)) indices.now }
+    ensures left { result ≡ false → IsOneLeft (lists_of rows.now) indices.now }
 {
-    for place in places {
-        if rows[*place as usize].is_empty() {
+    for index in indices {
+        if rows[*index as usize].is_empty() {
             return false;
         }
     }
     true
 }
 
-// The marks of some rows, and one at a place.
+// The marks of some rows, and one at an index.
 fn joined(
     alloc: Global,
     rows: &[Vec<bool>],
-    place: usize,
-    places: &[u32],
+    index: usize,
+    indices: &[u32],
 ) -> Result<Vec<bool>, NoMemory>
-    requires place { place < length rows.now }
-    requires places { All (λ other. (other < length rows.now) × (length (row_at (lists_of rows.now)
-        other) ≡ length rows.now)) places.now }
-    ensures { IfOk result (λ row. IsJoined (lists_of rows.now) place places.now row.items) }
+    requires index { index < length rows.now }
+    requires indices { All (λ other. (other < length rows.now) × (length (row_at (lists_of rows.now)
+        other) ≡ length rows.now)) indices.now }
+    ensures { IfOk result (λ row. IsJoined (lists_of rows.now) index indices.now row.items) }
 {
     let mut row = no_marks(alloc, rows.len())?;
-    row[place] = true;
-    for other in places {
+    row[index] = true;
+    for other in indices {
         add_marks(&mut row, rows[*other as usize].as_slice());
     }
     Ok(row)
@@ -97,7 +97,7 @@ fn add_marks(row: &mut Vec<bool>, other: &[bool])
     ensures marks { (b : ℕ) → has_met row.new.items b ≡ (has_met row.old.items b || has_met
         other.now b) }
 {
-    for place in 0..row.len() {
-        row[place] = row[place] | other[place];
+    for index in 0..row.len() {
+        row[index] = row[index] | other[index];
     }
 }

@@ -1,10 +1,17 @@
-ghost use Rattle.std.specs.Prelude.{◌≡◌, codes, IfOk, map, if◌then◌else◌, None};
+ghost use Rattle.std.specs.Prelude.{⊤, ◌≡◌, [], IfOk, None, if◌then◌else◌, unwrap_or};
 ghost use Rattle.std.specs.Option.{option_copied};
+ghost use Rattle.serde_json.specs.Find.{as_str};
 ghost use Rattle.serde_json.specs.View.{view};
-ghost use Rattle.target_graph.specs.File.{entry_of, entries_of, text_at, text_of, texts_at, kind_at, needs_main};
+ghost use Rattle.json_shape.specs.Shapes.{at, text_where, whole};
+ghost use Rattle.target_graph.specs.File as spec;
+ghost use Rattle.target_graph.specs.File.{entry_of, entries_of, file, is_kind, is_main_of, kind_in, needs_main, target};
+ghost use Rattle.target_graph.specs.Names as names;
 
-use crate::fields::{kind_at, list_at, text_at};
+use crate::names::{is_name, is_path, stem};
 use crate::target::TargetKind;
+use json_shape::{
+    BadValue, Checked, Read, Rule, bad_here, if_given, passing, read_between, required,
+};
 use ob_text::{Bytes, Items, Name, NoMemory, Path};
 use serde_json::Value;
 use std::alloc::Global;
@@ -19,71 +26,183 @@ pub(crate) struct Entry {
     pub(crate) main: Option<Name>,
 }
 
-/// What the file says of its targets. What isn't right in it is left out.
-pub(crate) fn entries_of(alloc: Global, file: &Value) -> Result<Vec<Entry>, NoMemory>
-    ensures { IfOk result (λ entries. entries.items ≡ entries_of (view file.now)) }
-{
-    entries_among(alloc, list_at(file, "targets").unwrap_or(&[]))
+/// What a workspace file says.
+#[derive(Drop)]
+pub(crate) struct File {
+    pub(crate) targets: Items<Entry>,
 }
 
-fn entries_among(alloc: Global, targets: &[Value]) -> Result<Vec<Entry>, NoMemory>
-    ensures { IfOk result (λ entries. entries.items ≡ map entry_of (map view targets.now)) }
-{
-    let mut entries = Vec::new(alloc);
-    for target in targets {
-        entries.push(entry_of(alloc, target)?)?;
+/// The version of a workspace file, which is 1.
+#[derive(Clone, Copy)]
+struct Version;
+
+/// A text may be the name of a target.
+struct IsName;
+
+/// A text may be the path of a module.
+struct IsPath;
+
+impl Rule for IsName {
+    ghost test = { names.is_name };
+
+    fn is_followed(text: &str) -> bool {
+        is_name(text.as_bytes())
     }
-    Ok(entries)
 }
 
-#[tactic(auto, unfolding(crate::specs::File::entry_of))]
-fn entry_of(alloc: Global, target: &Value) -> Result<Entry, NoMemory>
-    ensures { IfOk result (λ entry. entry ≡ entry_of (view target.now)) }
-{
-    let name = Name::new(alloc, text_at(target, "name").unwrap_or("").as_bytes())?;
-    let modules = texts_at(alloc, target, "modules")?;
-    let dependencies = texts_at(alloc, target, "dependencies")?;
-    let main = main_of(alloc, target)?;
-    Ok(Entry {
-        name,
-        kind: kind_at(target).unwrap_or(TargetKind::Library),
-        modules,
-        dependencies,
-        main,
-    })
+impl Rule for IsPath {
+    ghost test = { names.is_path };
+
+    fn is_followed(text: &str) -> bool {
+        is_path(text.as_bytes())
+    }
 }
 
-fn main_of(alloc: Global, target: &Value) -> Result<Option<Name>, NoMemory>
-    ensures { IfOk result (λ main. main ≡ (if needs_main (kind_at (view target.now)) then text_at
-        (codes "main") (view target.now) else None)) }
+impl Read for TargetKind {
+    ghost shape = { text_where is_kind };
+
+    ghost value_in = { kind_in };
+
+    ghost HasTexts = { λ _. ⊤ };
+
+    fn read(alloc: Global, value: &Value) -> Result<TargetKind, BadValue> {
+        match value.as_str() {
+            Some(text) => match kind_named(text) {
+                Some(kind) => Ok(kind),
+                None => Err(bad_here(alloc)),
+            },
+            None => Err(bad_here(alloc)),
+        }
+    }
+}
+
+#[tactic(auto, unfolding(crate::specs::File::kind_named))]
+fn kind_named(text: &str) -> Option<TargetKind>
+    ensures { result ≡ spec.kind_named text.now }
 {
-    match kind_at(target) {
-        Some(TargetKind::Application) => owned(alloc, text_at(target, "main")),
+    match text {
+        "library" => Some(TargetKind::Library),
+        "application" => Some(TargetKind::Application),
+        "test" => Some(TargetKind::Test),
+        _ => None,
+    }
+}
+
+impl Read for Version {
+    ghost shape = { whole 1 1 };
+
+    ghost value_in = { λ _. record {} };
+
+    ghost HasTexts = { λ _. ⊤ };
+
+    fn read(alloc: Global, value: &Value) -> Result<Version, BadValue> {
+        match read_between(alloc, value, 1, 1) {
+            Ok(_one) => Ok(Version),
+            Err(bad) => Err(bad),
+        }
+    }
+}
+
+impl Read for Entry {
+    ghost shape = { target };
+
+    ghost value_in = { entry_of };
+
+    ghost HasTexts = { λ _. ⊤ };
+
+    fn read(alloc: Global, value: &Value) -> Result<Entry, BadValue> {
+        if !value.is_object() {
+            return Err(bad_here(alloc));
+        }
+        let name = required::<Bytes<Checked<IsName>>>(alloc, value, "name")?;
+        let kind = required::<TargetKind>(alloc, value, "kind")?;
+        let modules = required::<Items<Bytes<Checked<IsPath>>>>(alloc, value, "modules")?;
+        let dependencies = if_given::<Items<Bytes<Checked<IsName>>>>(alloc, value, "dependencies")?;
+        let modules = each_owned(alloc, modules)?;
+        let main = text_at(value, "main");
+        passing(alloc, has_its_main(kind, modules.as_slice(), main), "main")?;
+        Ok(Entry {
+            name: Name::from_vec(name.into_vec()),
+            kind,
+            modules,
+            dependencies: given(alloc, dependencies)?,
+            main: main_of(alloc, kind, main)?,
+        })
+    }
+}
+
+impl Read for File {
+    ghost shape = { file };
+
+    ghost value_in = { λ d. record { targets = entries_of d } };
+
+    ghost HasTexts = { λ _. ⊤ };
+
+    fn read(alloc: Global, value: &Value) -> Result<File, BadValue> {
+        if !value.is_object() {
+            return Err(bad_here(alloc));
+        }
+        let _version: Version = required(alloc, value, "version")?;
+        let targets = required(alloc, value, "targets")?;
+        Ok(File { targets })
+    }
+}
+
+/// The member, where it is a text.
+fn text_at<'a>(value: &'a Value, key: &str) -> Option<&'a str>
+    ensures { option_copied result ≡ as_str (at key.now (view value.now)) }
+{
+    match value.get(key) {
+        Some(member) => member.as_str(),
+        None => None,
+    }
+}
+
+/// Whether a target of this kind has the main module that it needs.
+fn has_its_main(kind: TargetKind, modules: &[Path], main: Option<&str>) -> bool
+    ensures { result ≡ spec.has_its_main kind modules.now (option_copied main.entry) }
+{
+    match (kind, main) {
+        (TargetKind::Application, Some(main)) => is_main_of(modules, main.as_bytes()),
+        (TargetKind::Application, None) => false,
+        _ => true,
+    }
+}
+
+/// Whether one of the paths has this stem.
+fn is_main_of(modules: &[Path], main: &[u8]) -> bool
+    ensures { result ≡ is_main_of modules.now main.now }
+{
+    modules.iter().any(|path| main == stem(path.as_slice()))
+}
+
+fn main_of(alloc: Global, kind: TargetKind, main: Option<&str>) -> Result<Option<Name>, NoMemory>
+    ensures { IfOk result (λ name. name
+        ≡ (if needs_main kind then option_copied main.entry else None)) }
+{
+    match (kind, main) {
+        (TargetKind::Application, Some(main)) => Ok(Some(Name::new(alloc, main.as_bytes())?)),
         _ => Ok(None),
     }
 }
 
-fn owned(alloc: Global, text: Option<&str>) -> Result<Option<Name>, NoMemory>
-    ensures { IfOk result (λ name. name ≡ option_copied text.entry) }
+/// The items, or none where there is no list.
+fn given<K, L>(alloc: Global, items: Option<Items<Bytes<K>>>) -> Result<Items<Bytes<L>>, NoMemory>
+    ensures { IfOk result (λ list. list ≡ unwrap_or items []) }
 {
-    match text {
-        Some(text) => Ok(Some(Name::new(alloc, text.as_bytes())?)),
-        None => Ok(None),
+    match items {
+        Some(items) => each_owned(alloc, items),
+        None => Ok(Items::from_vec(Vec::new(alloc))),
     }
 }
 
-fn texts_at<K>(alloc: Global, target: &Value, key: &str) -> Result<Items<Bytes<K>>, NoMemory>
-    ensures { IfOk result (λ texts. texts ≡ texts_at key.now (view target.now)) }
+/// The same texts, of another kind.
+fn each_owned<K, L>(alloc: Global, items: Items<Bytes<K>>) -> Result<Items<Bytes<L>>, NoMemory>
+    ensures { IfOk result (λ list. list ≡ items) }
 {
-    texts_of(alloc, list_at(target, key).unwrap_or(&[]))
-}
-
-fn texts_of<K>(alloc: Global, items: &[Value]) -> Result<Items<Bytes<K>>, NoMemory>
-    ensures { IfOk result (λ texts. texts ≡ map text_of (map view items.now)) }
-{
-    let mut texts = Vec::new(alloc);
-    for item in items {
-        texts.push(Bytes::new(alloc, item.as_str().unwrap_or("").as_bytes())?)?;
+    let mut list = Vec::new(alloc);
+    for item in items.into_vec() {
+        list.push(Bytes::from_vec(item.into_vec()))?;
     }
-    Ok(Items::from_vec(texts))
+    Ok(Items::from_vec(list))
 }

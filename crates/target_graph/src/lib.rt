@@ -1,6 +1,10 @@
-//! The workspace that a client works on: its file, its root, the closures of its targets and the
-//! addresses of its
-//! targets and documents.
+//! The workspace that a client works on: its file, its root, the closures of its targets, and the addresses of
+//! its targets and documents.
+//!
+//! It stands on `json_shape` for the fields of the file, on `url` for addresses, on `oberon_scan` for the words
+//! that no module may have as its name, and on `ob_text`. It knows the workspace file, and nothing of messages.
+//! Begin with `specs/File.antt` and `Faults.antt`, which say what a file has to be, then `Workspace.antt`; the
+//! code begins at `Workspace::read`.
 #![tactic(auto)]
 
 mod address;
@@ -8,7 +12,6 @@ mod blank;
 mod closures;
 mod entry;
 mod fault;
-mod fields;
 mod listing;
 mod names;
 mod pairs;
@@ -16,15 +19,11 @@ mod reading;
 mod root;
 mod stems;
 mod target;
-#[cfg(test)]
-mod tests;
 mod walk;
 mod workspace;
 
-pub use address::ADDRESS_LIMIT;
 pub use fault::{FaultKind, WorkspaceFault, WorkspaceRefusal};
-pub use listing::{DEPENDENCY_LIMIT, PAIR_LIMIT, TARGET_LIMIT};
-pub use names::{NAME_LIMIT, stem_of};
-pub use root::{ROOT_LIMIT, Root, RootFault, root_of};
+pub use names::stem_of;
+pub use root::{Root, RootFault, root_of};
 pub use target::{Pair, Target, TargetKind};
 pub use workspace::Workspace;

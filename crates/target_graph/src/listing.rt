@@ -1,9 +1,10 @@
 ghost use Rattle.std.specs.Prelude.{◌≡◌, ◌<◌, ◌≤◌, ◌^◌, codes, length, nat_lt, None, Some, map, All, Contains, IfOk, IfSome, IfNone, not, ◌∷◌, ◌++◌, [], if◌then◌else◌};
 ghost use Rattle.std.specs.List.{list_any};
 ghost use Rattle.std.specs.Str.{bytes_eq};
-ghost use Rattle.target_graph.specs.Faults.{too_many, modules_of, dependencies_of, names_of, target_of, place_of, IsFirstRepeat, IsFirstUnknown, IsAbout, IsIndex, IsResolved, Looks};
+ghost use Rattle.target_graph.specs.Faults.{too_many, modules_of, dependencies_of, names_of, target_of, index_of, IsFirstRepeat, IsFirstUnknown, IsAbout, IsIndex, IsResolved, Looks};
 ghost use Rattle.target_graph.specs.declared.fault.FaultKind.TheVariants as kinds;
 ghost use Rattle.target_graph.specs.declared.target.Target.{Target};
+ghost use Rattle.target_graph.specs.Limits.{dependencies_limit, pairs_limit, targets_limit};
 
 use crate::entry::Entry;
 use crate::fault::{FaultKind, WorkspaceFault, WorkspaceRefusal};
@@ -13,13 +14,13 @@ use ob_text::{Items, Name, NoMemory};
 use std::alloc::Global;
 
 /// The most targets of a workspace.
-pub const TARGET_LIMIT: usize = 256;
+const TARGET_LIMIT: usize = 256;
 
 /// The most pairs of a target and a module's path, over all targets.
-pub const PAIR_LIMIT: usize = 1_024;
+const PAIR_LIMIT: usize = 1_024;
 
 /// The most dependencies, over all targets.
-pub const DEPENDENCY_LIMIT: usize = 1_024;
+const DEPENDENCY_LIMIT: usize = 1_024;
 
 /// The refusal by a fault that is about these bytes.
 pub(crate) fn refusal(alloc: Global, kind: FaultKind, name: &[u8]) -> WorkspaceRefusal
@@ -49,7 +50,7 @@ pub(crate) fn count(alloc: Global, entries: &[Entry]) -> Result<(), WorkspaceRef
 }
 
 fn has_many_modules(entries: &[Entry]) -> bool
-    ensures { result ≡ nat_lt PAIR_LIMIT (length (modules_of entries.now)) }
+    ensures { result ≡ nat_lt pairs_limit (length (modules_of entries.now)) }
 {
     let mut count = 0;
     for entry in entries {
@@ -63,7 +64,7 @@ fn has_many_modules(entries: &[Entry]) -> bool
 }
 
 fn has_many_dependencies(entries: &[Entry]) -> bool
-    ensures { result ≡ nat_lt DEPENDENCY_LIMIT (length (dependencies_of entries.now)) }
+    ensures { result ≡ nat_lt dependencies_limit (length (dependencies_of entries.now)) }
 {
     let mut count = 0;
     for entry in entries {
@@ -77,7 +78,10 @@ fn has_many_dependencies(entries: &[Entry]) -> bool
 }
 
 /// The names of the targets, in order, where no two are equal.
-pub(crate) fn index(alloc: Global, entries: &[Entry]) -> Result<IndexSet<Name>, WorkspaceRefusal>
+pub(crate) fn index_names(
+    alloc: Global,
+    entries: &[Entry],
+) -> Result<IndexSet<Name>, WorkspaceRefusal>
     ensures { Looks result kinds.NameTwice (IsFirstRepeat (names_of entries.now)) (λ names.
         IsIndex names.keys (names_of entries.now)) }
 {
@@ -104,13 +108,13 @@ pub(crate) fn insert(
     Ok(new)
 }
 
-/// The targets, each dependency by its place among the names.
+/// The targets, each dependency by its index among the names.
 pub(crate) fn resolve(
     alloc: Global,
     names: &IndexSet<Name>,
     entries: Vec<Entry>,
 ) -> Result<Vec<Target>, WorkspaceRefusal>
-    requires few { length names.now.keys ≤ TARGET_LIMIT }
+    requires few { length names.now.keys ≤ targets_limit }
     ensures { Looks result kinds.UnknownDependency (IsFirstUnknown names.now.keys (dependencies_of
         entries.items))
         (λ targets. IsResolved names.now.keys entries.items targets.items) }
@@ -130,13 +134,13 @@ fn target_of(
     names: &IndexSet<Name>,
     entry: Entry,
 ) -> Result<Target, WorkspaceRefusal>
-    requires few { length names.now.keys ≤ TARGET_LIMIT }
+    requires few { length names.now.keys ≤ targets_limit }
     ensures { Looks result kinds.UnknownDependency (IsFirstUnknown names.now.keys
         entry.dependencies)
         (λ target. (target ≡ target_of names.now.keys entry) × All (Contains names.now.keys)
         entry.dependencies) }
 {
-    match places_of(alloc, names, entry.dependencies.as_slice()) {
+    match indices_of(alloc, names, entry.dependencies.as_slice()) {
         Ok(dependencies) => Ok(Target {
             name: entry.name,
             kind: entry.kind,
@@ -148,35 +152,35 @@ fn target_of(
     }
 }
 
-fn places_of(
+fn indices_of(
     alloc: Global,
     names: &IndexSet<Name>,
     wanted: &[Name],
 ) -> Result<Items<u32>, WorkspaceRefusal>
-    requires few { length names.now.keys ≤ TARGET_LIMIT }
+    requires few { length names.now.keys ≤ targets_limit }
     ensures { Looks result kinds.UnknownDependency (IsFirstUnknown names.now.keys wanted.now)
-        (λ places. (places ≡ map (place_of names.now.keys) wanted.now) × All (Contains
+        (λ indices. (indices ≡ map (index_of names.now.keys) wanted.now) × All (Contains
         names.now.keys) wanted.now) }
 {
-    let mut places = Vec::new(alloc);
+    let mut indices = Vec::new(alloc);
     for name in wanted {
-        match place_of(names, name) {
-            Some(place) => places.push(place)?,
+        match index_of(names, name) {
+            Some(index) => indices.push(index)?,
             None => return Err(refusal(alloc, FaultKind::UnknownDependency, name.as_slice())),
         }
     }
-    Ok(Items::from_vec(places))
+    Ok(Items::from_vec(indices))
 }
 
-/// The place of a name, where it is there.
-pub(crate) fn place_of(names: &IndexSet<Name>, name: &Name) -> Option<u32>
+/// The index of a name, where it is there.
+pub(crate) fn index_of(names: &IndexSet<Name>, name: &Name) -> Option<u32>
     requires few { length names.now.keys < 2 ^ 32 }
-    ensures some { IfSome result (λ place. (place ≡ place_of names.now.keys name.now) × Contains
+    ensures some { IfSome result (λ index. (index ≡ index_of names.now.keys name.now) × Contains
         names.now.keys name.now) }
     ensures none { IfNone result (¬ (Contains names.now.keys name.now)) }
 {
     match names.get_index_of(name) {
-        Some(place) => Some(place as u32),
+        Some(index) => Some(index as u32),
         None => None,
     }
 }

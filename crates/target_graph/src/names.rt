@@ -9,7 +9,7 @@ use oberon_scan::is_reserved;
 use std::alloc::Global;
 
 /// The most bytes of a target's name, and of a module's path.
-pub const NAME_LIMIT: usize = 255;
+const NAME_LIMIT: usize = 255;
 
 /// Whether a text may be the name of a target.
 #[tactic(auto, unfolding(crate::specs::Names::is_name))]

@@ -12,12 +12,12 @@ pub(crate) fn pairs_of(alloc: Global, targets: &[Target]) -> Result<Vec<Pair>, N
     ensures { IfOk result (λ pairs. pairs.items ≡ pairs_of targets.now) }
 {
     let mut pairs = Vec::new(alloc);
-    for place in 0..targets.len() {
+    for index in 0..targets.len() {
         add_pairs(
             alloc,
             &mut pairs,
-            place as u32,
-            targets[place].modules.as_slice(),
+            index as u32,
+            targets[index].modules.as_slice(),
         )?;
     }
     Ok(pairs)

@@ -2,17 +2,17 @@ ghost use Rattle.std.specs.Prelude.{◌≡◌, [], None, Some, IfOk, option_map}
 ghost use Rattle.ob_text.specs.declared.held.Held.{Held};
 ghost use Rattle.serde_json.specs.View.{view};
 ghost use Rattle.target_graph.specs.Faults.{text_in, json_of, value_in, entries_in, names_of, too_many, Looks, Passed, IsIndex};
-ghost use Rattle.target_graph.specs.File.{file_fields, first_bad};
-ghost use Rattle.target_graph.specs.Listing.{Reads};
+ghost use Rattle.target_graph.specs.File.{bad_file, entries_of};
+ghost use Rattle.target_graph.specs.Listing.{GivesListing};
 ghost use Rattle.target_graph.specs.Names.{IsPlainName};
 ghost use Rattle.target_graph.specs.declared.fault.FaultKind.TheVariants as kinds;
 
-use crate::entry::{Entry, entries_of};
+use crate::entry::{Entry, File};
 use crate::fault::{FaultKind, WorkspaceFault, WorkspaceRefusal};
-use crate::fields::bad_field;
-use crate::listing::{count, index, refusal, resolve};
+use crate::listing::{count, index_names, refusal, resolve};
 use crate::target::Target;
 use indexmap::IndexSet;
+use json_shape::BadValue;
 use ob_text::{Held, Name, NoMemory};
 use serde_json::Value;
 use std::alloc::Global;
@@ -24,9 +24,9 @@ pub(crate) struct Listing {
     pub(crate) targets: Vec<Target>,
 }
 
-/// Reads a file up to the places of the dependencies.
+/// Reads a file up to the indices of the dependencies.
 pub(crate) fn read_file(alloc: Global, file: &Held) -> Result<Listing, WorkspaceRefusal>
-    ensures { Reads file.now result }
+    ensures { GivesListing file.now result }
 {
     match text_of(alloc, file) {
         Ok(text) => read_text(alloc, text),
@@ -45,7 +45,7 @@ fn text_of<'a>(alloc: Global, file: &'a Held) -> Result<&'a [u8], WorkspaceRefus
 }
 
 fn read_text(alloc: Global, text: &[u8]) -> Result<Listing, WorkspaceRefusal>
-    ensures { (held : Held) → text_in held ≡ Some text.now → Passed held 1 → Reads held result }
+    ensures { (held : Held) → text_in held ≡ Some text.now → Passed held 1 → GivesListing held result }
 {
     match json_of(alloc, text) {
         Ok(value) => read_value(alloc, &value),
@@ -82,42 +82,35 @@ fn value_of(alloc: Global, text: &[u8]) -> Result<Option<Value>, NoMemory>
 }
 
 fn read_value(alloc: Global, value: &Value) -> Result<Listing, WorkspaceRefusal>
-    ensures { (held : Held) → value_in held ≡ Some (view value.now) → Passed held 2 → Reads held
-        result }
+    ensures { (held : Held) → value_in held ≡ Some (view value.now) → Passed held 2 → GivesListing
+        held result }
 {
-    match check_fields(alloc, value) {
-        Ok(()) => read_fields(alloc, value),
+    match entries_of(alloc, value) {
+        Ok(entries) => read_entries(alloc, entries),
         Err(refusal) => Err(refusal),
     }
 }
 
-fn check_fields(alloc: Global, value: &Value) -> Result<(), WorkspaceRefusal>
-    ensures { Looks result kinds.BadField (λ name. (first_bad (file_fields (view value.now)) ≡
-        Some name) × IsPlainName name)
-        (λ _. first_bad (file_fields (view value.now)) ≡ None) }
+/// What the file says of its targets, where no field of it is bad.
+#[tactic(auto, using(crate::proofs::PlainLaws::plain_field))]
+fn entries_of(alloc: Global, value: &Value) -> Result<Vec<Entry>, WorkspaceRefusal>
+    ensures { Looks result kinds.BadField (λ name. (bad_file (view value.now) ≡ Some name)
+        × IsPlainName name)
+        (λ entries. (bad_file (view value.now) ≡ None) × (entries.items ≡ entries_of (view
+        value.now))) }
 {
-    match bad_field(alloc, value) {
-        Ok(Some(name)) => Err(WorkspaceRefusal::Fault(WorkspaceFault {
+    match json_shape::read_named::<File>(alloc, value, "$") {
+        Ok(file) => Ok(file.targets.into_vec()),
+        Err(BadValue::At(path)) => Err(WorkspaceRefusal::Fault(WorkspaceFault {
             kind: FaultKind::BadField,
-            name,
+            name: Name::from_vec(path.into_vec()),
         })),
-        Ok(None) => Ok(()),
-        Err(NoMemory) => Err(WorkspaceRefusal::NoMemory),
-    }
-}
-
-fn read_fields(alloc: Global, value: &Value) -> Result<Listing, WorkspaceRefusal>
-    ensures { (held : Held) → value_in held ≡ Some (view value.now) → Passed held 3 → Reads held
-        result }
-{
-    match entries_of(alloc, value) {
-        Ok(entries) => read_entries(alloc, entries),
-        Err(NoMemory) => Err(WorkspaceRefusal::NoMemory),
+        Err(BadValue::NoMemory) => Err(WorkspaceRefusal::NoMemory),
     }
 }
 
 fn read_entries(alloc: Global, entries: Vec<Entry>) -> Result<Listing, WorkspaceRefusal>
-    ensures { (held : Held) → entries_in held ≡ entries.items → Passed held 3 → Reads held result }
+    ensures { (held : Held) → entries_in held ≡ entries.items → Passed held 3 → GivesListing held result }
 {
     match count(alloc, &entries) {
         Ok(()) => read_counted(alloc, entries),
@@ -127,9 +120,9 @@ fn read_entries(alloc: Global, entries: Vec<Entry>) -> Result<Listing, Workspace
 
 fn read_counted(alloc: Global, entries: Vec<Entry>) -> Result<Listing, WorkspaceRefusal>
     requires few { too_many entries.items ≡ None }
-    ensures { (held : Held) → entries_in held ≡ entries.items → Passed held 4 → Reads held result }
+    ensures { (held : Held) → entries_in held ≡ entries.items → Passed held 4 → GivesListing held result }
 {
-    match index(alloc, &entries) {
+    match index_names(alloc, &entries) {
         Ok(names) => read_named(alloc, names, entries),
         Err(refusal) => Err(refusal),
     }
@@ -142,7 +135,7 @@ fn read_named(
 ) -> Result<Listing, WorkspaceRefusal>
     requires few { too_many entries.items ≡ None }
     requires index { IsIndex names.keys (names_of entries.items) }
-    ensures { (held : Held) → entries_in held ≡ entries.items → Passed held 5 → Reads held result }
+    ensures { (held : Held) → entries_in held ≡ entries.items → Passed held 5 → GivesListing held result }
 {
     match resolve(alloc, &names, entries) {
         Ok(targets) => Ok(Listing { names, targets }),

@@ -4,6 +4,7 @@ ghost use Rattle.std.specs.List.{list_all};
 ghost use Rattle.url.specs.Parts.{serialize};
 ghost use Rattle.url.specs.Parser.{Gives, parse_url};
 ghost use Rattle.target_graph.specs.Address.{root_at, root_of_url, with_slash, plain_root};
+ghost use Rattle.target_graph.specs.Limits.{root_limit};
 
 use ob_text::{NoMemory, Text};
 use std::alloc::Global;
@@ -11,7 +12,7 @@ use std::marker::Model;
 use url::{ParseError, Url};
 
 /// The most bytes of a `rootUri`, and of the root that is made of it.
-pub const ROOT_LIMIT: usize = 4_096;
+const ROOT_LIMIT: usize = 4_096;
 
 /// The address of a workspace's folder. It ends in a slash.
 #[derive(Debug, Drop)]
@@ -44,7 +45,7 @@ impl Root {
 /// Why an address is no root.
 #[derive(Clone, Copy, Debug, PartialEq, Eq)]
 pub enum RootFault {
-    /// It isn't an address of a folder, or its root is longer than `ROOT_LIMIT` or holds a byte that is no printing
+    /// It isn't an address of a folder, or its root is longer than 4,096 bytes or holds a byte that is no printing
     /// ASCII character.
     BadRoot,
     NoMemory,
@@ -64,7 +65,7 @@ impl From<NoMemory> for RootFault {
 /// The root at a `rootUri` (Build Server Protocol 2.2, InitializeBuildParams).
 #[tactic(auto, unfolding(crate::specs::Address::root_at))]
 pub fn root_of(alloc: Global, text: &str) -> Result<Root, RootFault>
-    requires { length text.now ≤ ROOT_LIMIT }
+    requires { length text.now ≤ root_limit }
     ensures root { IfOk result (λ root. root_at text.now ≡ Some root) }
     ensures bad { result ≡ Err RootFault.BadRoot → root_at text.now ≡ None }
 {

@@ -4,10 +4,11 @@ ghost use Rattle.target_graph.specs.Faults.{IsFirstStemTwice, IsRepeat, Looks};
 ghost use Rattle.target_graph.specs.Stems.{IsNumbered, IsNumbering, IsSeen, IsTwice, IsFirstTwice, AreGroups, HasNumbers};
 ghost use Rattle.target_graph.specs.Workspace.{pairs_of, stems_of};
 ghost use Rattle.target_graph.specs.declared.fault.FaultKind.TheVariants as kinds;
+ghost use Rattle.target_graph.specs.Limits.{pairs_limit};
 
 use crate::blank::{empty_lists, no_marks};
 use crate::fault::{FaultKind, WorkspaceRefusal};
-use crate::listing::{PAIR_LIMIT, refusal};
+use crate::listing::refusal;
 use crate::names::stem;
 use crate::target::{Pair, Target};
 use indexmap::IndexSet;
@@ -22,7 +23,7 @@ pub(crate) fn number(
     pairs: &[Pair],
 ) -> Result<Vec<u32>, NoMemory>
     requires empty { stems.old.keys ≡ [] }
-    requires few { length pairs.now ≤ PAIR_LIMIT }
+    requires few { length pairs.now ≤ pairs_limit }
     ensures { IfOk result (λ numbers. IsNumbering (stems_of pairs.now) stems.new.keys
         numbers.items) }
 {
@@ -35,14 +36,14 @@ pub(crate) fn number(
 }
 
 fn number_of(stems: &mut IndexSet<Name>, name: Name) -> Result<u32, NoMemory>
-    requires { length stems.old.keys ≤ PAIR_LIMIT }
+    requires { length stems.old.keys ≤ pairs_limit }
     ensures { IfOk result (IsNumbered stems.old.keys stems.new.keys name) }
 {
     let (number, _) = stems.insert_full(name)?;
     Ok(number as u32)
 }
 
-/// The pairs of each stem, by the numbers of the stems: the places of these pairs, in order.
+/// The pairs of each stem, by the numbers of the stems: the indices of these pairs, in order.
 pub(crate) fn groups(
     alloc: Global,
     numbers: &[u32],
@@ -53,8 +54,8 @@ pub(crate) fn groups(
     ensures { IfOk result (λ groups. AreGroups numbers.now width (lists groups)) }
 {
     let mut groups = empty_lists(alloc, width)?;
-    for place in 0..numbers.len() {
-        groups[numbers[place] as usize].push(place as u32)?;
+    for index in 0..numbers.len() {
+        groups[numbers[index] as usize].push(index as u32)?;
     }
     Ok(groups)
 }
@@ -78,8 +79,8 @@ pub(crate) fn check_stems(
     if !has_shared(groups) {
         return Ok(());
     }
-    for place in 0..closures.len() {
-        let marks = closures[place].as_slice();
+    for index in 0..closures.len() {
+        let marks = closures[index].as_slice();
         match check_row(alloc, marks, pairs, numbers, groups.len()) {
             Ok(()) => {}
             Err(refusal) => return Err(refusal),
@@ -115,11 +116,11 @@ fn check_row(
         (λ _. (q : ℕ) → ¬ (IsTwice marks.now pairs.now numbers.now q)) }
 {
     let mut seen = no_marks(alloc, width)?;
-    for place in 0..pairs.len() {
-        if marks[pairs[place].target as usize] {
-            let number = numbers[place] as usize;
+    for index in 0..pairs.len() {
+        if marks[pairs[index].target as usize] {
+            let number = numbers[index] as usize;
             if seen[number] {
-                let name = stem(pairs[place].path.as_slice());
+                let name = stem(pairs[index].path.as_slice());
                 return Err(refusal(alloc, FaultKind::StemTwice, name));
             }
             seen[number] = true;
@@ -130,14 +131,14 @@ fn check_row(
 
 /// The first pair of a group whose target is marked.
 pub(crate) fn first_seen(marks: &[bool], pairs: &[Pair], group: &[u32]) -> Option<u32>
-    requires group { All (λ place. place < length pairs.now) group.now }
+    requires group { All (λ index. index < length pairs.now) group.now }
     requires marks { All (λ pair. pair.target < length marks.now) pairs.now }
     ensures some { IfSome result (λ q. Contains group.now q × IsSeen marks.now pairs.now q) }
     ensures none { IfNone result (All (λ q. ¬ (IsSeen marks.now pairs.now q)) group.now) }
 {
-    for place in group {
-        if marks[pairs[*place as usize].target as usize] {
-            return Some(*place);
+    for index in group {
+        if marks[pairs[*index as usize].target as usize] {
+            return Some(*index);
         }
     }
     None

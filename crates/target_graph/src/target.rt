@@ -8,7 +8,7 @@ pub enum TargetKind {
     Test,
 }
 
-/// A target of a workspace. Its dependencies are places in the list of all targets, and its main
+/// A target of a workspace. Its dependencies are indices in the list of all targets, and its main
 /// module, which an
 /// application alone has, is the stem of one of its modules' paths.
 #[derive(Debug, Drop)]
@@ -20,7 +20,7 @@ pub struct Target {
     pub main: Option<Name>,
 }
 
-/// A target, by its place, and one of its modules.
+/// A target, by its index, and one of its modules.
 #[derive(Debug, Drop)]
 pub struct Pair {
     pub target: u32,

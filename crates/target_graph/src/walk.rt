@@ -47,10 +47,10 @@ impl Walk {
         requires { target < length self.old.marks.items }
         ensures { OnOk result (met self.new ≡ meet (met self.old) target) }
     {
-        let place = target as usize;
-        if !self.marks[place] {
+        let index = target as usize;
+        if !self.marks[index] {
             self.order.push(target)?;
-            self.marks[place] = true;
+            self.marks[index] = true;
         }
         Ok(())
     }
@@ -72,37 +72,37 @@ pub(crate) fn reached(
     walk.meet_all(asked)?;
     let mut at = 0;
     'walk: while at < walk.order.len() {
-        let place = walk.order[at] as usize;
-        walk.meet_all(targets[place].dependencies.as_slice())?;
+        let index = walk.order[at] as usize;
+        walk.meet_all(targets[index].dependencies.as_slice())?;
         at += 1;
     }
     Ok(walk.marks)
 }
 
-/// The marked places, in order.
+/// The marked indices, in order.
 pub(crate) fn marked(alloc: Global, marks: &[bool]) -> Result<Vec<u32>, NoMemory>
     requires { length marks.now < 2 ^ 32 }
-    ensures { IfOk result (λ places. AreMarked marks.now places.items) }
+    ensures { IfOk result (λ indices. AreMarked marks.now indices.items) }
 {
-    let mut places = Vec::new(alloc);
-    for place in 0..marks.len() {
-        if marks[place] {
-            places.push(place as u32)?;
+    let mut indices = Vec::new(alloc);
+    for index in 0..marks.len() {
+        if marks[index] {
+            indices.push(index as u32)?;
         }
     }
-    Ok(places)
+    Ok(indices)
 }
 
 /// Looks for the first target that depends on itself.
 pub(crate) fn check_cycles(alloc: Global, targets: &[Target]) -> Result<(), WorkspaceRefusal>
     requires { AreClosed targets.now }
-    ensures { Looks result kinds.DependencyCycle (IsFirstCycle targets.now) (λ _. (place : ℕ) → ¬
-        (Circles targets.now place)) }
+    ensures { Looks result kinds.DependencyCycle (IsFirstCycle targets.now) (λ _. (index : ℕ) → ¬
+        (Circles targets.now index)) }
 {
-    for place in 0..targets.len() {
-        let marks = reached(alloc, targets, targets[place].dependencies.as_slice())?;
-        if marks[place] {
-            let name = targets[place].name.as_slice();
+    for index in 0..targets.len() {
+        let marks = reached(alloc, targets, targets[index].dependencies.as_slice())?;
+        if marks[index] {
+            let name = targets[index].name.as_slice();
             return Err(refusal(alloc, FaultKind::DependencyCycle, name));
         }
     }

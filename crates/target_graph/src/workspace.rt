@@ -8,13 +8,13 @@ ghost use Rattle.target_graph.specs.Listing.{IsListing, Accepts};
 ghost use Rattle.target_graph.specs.Names.{is_name, is_path};
 ghost use Rattle.target_graph.specs.Walk.{AreClosed};
 ghost use Rattle.target_graph.specs.Workspace.{pairs_of, id_of, path_at, named, with_id, AreValid, IsClosure, IsVisible, Names, IsInverse};
+ghost use Rattle.target_graph.specs.Limits.{dependencies_limit, pairs_limit, targets_limit};
 ghost use Rattle.ob_text.specs.declared.held.Held.{Held};
-ghost use Rattle.target_graph.specs.declared.listing.TheConstants.{DEPENDENCY_LIMIT};
 
 use crate::address::{behind, joined, listing, printed};
 use crate::closures::closures;
 use crate::fault::WorkspaceRefusal;
-use crate::listing::{PAIR_LIMIT, TARGET_LIMIT, place_of};
+use crate::listing::index_of;
 use crate::pairs::pairs_of;
 use crate::reading::{Listing, read_file};
 use crate::root::Root;
@@ -121,11 +121,11 @@ impl Workspace {
     /// The targets, in the order of the file.
     pub fn targets(&self) -> &[Target]
         ensures targets { result.now ≡ self.now.targets }
-        ensures few { length result.now ≤ TARGET_LIMIT }
-        ensures few_modules { length (flat_map (λ target. target.modules) result.now) ≤ PAIR_LIMIT }
+        ensures few { length result.now ≤ targets_limit }
+        ensures few_modules { length (flat_map (λ target. target.modules) result.now) ≤ pairs_limit }
         ensures few_dependencies { length (flat_map (λ target. target.dependencies) result.now)
-            ≤ DEPENDENCY_LIMIT }
-        // Each dependency is the place of a target.
+            ≤ dependencies_limit }
+        // Each dependency is the index of a target.
         ensures closed { AreClosed result.now }
         // Each name is a target's name, and each path is a module's path, as `stem_of` wants it.
         ensures valid { AreValid result.now }
@@ -136,7 +136,7 @@ impl Workspace {
     /// The pairs of a target and one of its modules, in the order of the file.
     pub fn pairs(&self) -> &[Pair]
         ensures pairs { result.now ≡ pairs_of self.now.targets }
-        ensures few { length result.now ≤ PAIR_LIMIT }
+        ensures few { length result.now ≤ pairs_limit }
         ensures within { All (λ pair. pair.target < length self.now.targets) result.now }
         // Two with one address of their documents have different ids of their targets.
         ensures distinct { AllPairs (λ p q. document_address self.now.root p.path
@@ -248,7 +248,7 @@ impl Workspace {
             return Ok(None);
         };
         let name = Name::new(self.alloc, name)?;
-        Ok(place_of(&self.names, &name))
+        Ok(index_of(&self.names, &name))
     }
 
     /// The targets that list a document themselves, in the order of the file. An address counts as
@@ -256,7 +256,7 @@ impl Workspace {
     /// spelled, or as `url` prints it; one that is no document's has none.
     pub fn inverse(&self, uri: &str) -> Result<Vec<u32>, NoMemory>
         ensures inverse { IfOk result (λ targets. IsInverse self.now uri.now targets.items) }
-        ensures few { IfOk result (λ targets. length targets.items ≤ TARGET_LIMIT) }
+        ensures few { IfOk result (λ targets. length targets.items ≤ targets_limit) }
     {
         let printed = printed(self.alloc, uri)?;
         let own = behind(uri.as_bytes(), self.root.as_slice());

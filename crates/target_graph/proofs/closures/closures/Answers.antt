@@ -36,6 +36,6 @@ unreachable-requires c =
       | else-loop-test w ↦ absurd (omega (arith, w.loop-test.false, c.loop.auto.counter-end))
       | then-loop-test+in_ok-sweep+else-branch+else-counter-end w ↦ (
           let left = subst (IsWhole targets (lists w.sweep.new.rows)) w.if-branch.false w.in_ok-sweep.ensures.whole in
-          never_deep targets c.in-Ok.ensures.0 (suc c.loop.counter) left.place (omega arith)
-          (w.in_ok-sweep.ensures.deep c.loop.counter c.loop.invariant.1 left.place left.within left.unmade))
+          never_deep targets c.in-Ok.ensures.0 (suc c.loop.counter) left.index (omega arith)
+          (w.in_ok-sweep.ensures.deep c.loop.counter c.loop.invariant.1 left.index left.within left.unmade))
     ]

@@ -13,49 +13,49 @@ use Rattle.target_graph.proofs.stems.check_row.Goals.{then-marks-pairs+else-inde
 pub returns-then-index : goal.returns-then-index
 returns-then-index c =
     let marks = c.args.marks.now in let pairs = c.args.pairs.now in let numbers = c.args.numbers.now in
-    let q = c.loop-place.place in
-    let pair = c.index-pairs-place.result in
-    let m : has_met marks pair.target ≡ true = ap (λ (p : Pair). has_met marks p.target) c.index-pairs-place.is ∙ c.if-marks-pairs.true in
+    let q = c.loop-index.index in
+    let pair = c.index-pairs-index.result in
+    let m : has_met marks pair.target ≡ true = ap (λ (p : Pair). has_met marks p.target) c.index-pairs-index.is ∙ c.if-marks-pairs.true in
     let n = get_or numbers q 0 in
-    let wide : n < length c.loop-place.seen.items = subst (λ k. n < k) (sym c.loop-place.invariant.0) (c.requires.width q 0 (subst (λ k. q < k) (sym c.requires.numbers) c.loop-place-test.true)) in
-    let there : has_met c.loop-place.seen.items n ≡ true = get_or_default c.loop-place.seen.items n false c.index.result.now wide ∙ (sym c.index.ensures ∙ c.if-index.true) in
-    let twice = twice_at marks pairs numbers q c.loop-place.seen.items c.loop-place.invariant.1 (seen_at marks pairs numbers q pair c.loop-place-test.true c.index-pairs-place.is m) there in
+    let wide : n < length c.loop-index.seen.items = subst (λ k. n < k) (sym c.loop-index.invariant.0) (c.requires.width q 0 (subst (λ k. q < k) (sym c.requires.numbers) c.loop-index-test.true)) in
+    let there : has_met c.loop-index.seen.items n ≡ true = get_or_default c.loop-index.seen.items n false c.index.result.now wide ∙ (sym c.index.ensures ∙ c.if-index.true) in
+    let twice = twice_at marks pairs numbers q c.loop-index.seen.items c.loop-index.invariant.1 (seen_at marks pairs numbers q pair c.loop-index-test.true c.index-pairs-index.is m) there in
     found c.refusal.result kinds.StemTwice (IsFirstTwice marks pairs numbers) _ _
     c.refusal.ensures
     (subst (λ (xs : List ℕ). IsFirstTwice marks pairs numbers xs)
     (sym (c.stem-name.ensures ∙ ap stem (c.as_slice.ensures ∙ ap (λ (p : Pair). p.path)
-    (get_or_default pairs q c.index-pairs-place-then-index.result pair c.loop-place-test.true ∙ sym c.index-pairs-place.is))))
-    (first_twice marks pairs numbers q pair c.loop-place-test.true c.index-pairs-place.is twice c.loop-place.invariant.2))
+    (get_or_default pairs q c.index-pairs-index-then-index.result pair c.loop-index-test.true ∙ sym c.index-pairs-index.is))))
+    (first_twice marks pairs numbers q pair c.loop-index-test.true c.index-pairs-index.is twice c.loop-index.invariant.2))
 
-pub loop-place-preserved : goal.loop-place-preserved
-loop-place-preserved c =
+pub loop-index-preserved : goal.loop-index-preserved
+loop-index-preserved c =
     let marks = c.args.marks.now in let pairs = c.args.pairs.now in let numbers = c.args.numbers.now in
-    let q = c.loop-place.place in
-    let pair = c.index-pairs-place.result in
+    let q = c.loop-index.index in
+    let pair = c.index-pairs-index.result in
     elim c.if-marks-pairs.branch [
       | then-marks-pairs+else-index w ↦ (
           let n = get_or numbers q 0 in
-          let wide : n < length c.loop-place.seen.items = subst (λ k. n < k) (sym c.loop-place.invariant.0) (c.requires.width q 0 (subst (λ k. q < k) (sym c.requires.numbers) c.loop-place-test.true)) in
-          let m : has_met marks pair.target ≡ true = ap (λ (p : Pair). has_met marks p.target) c.index-pairs-place.is ∙ w.if-marks-pairs.true in
-          let seen = seen_at marks pairs numbers q pair c.loop-place-test.true c.index-pairs-place.is m in
-          let free : has_met c.loop-place.seen.items n ≡ false = get_or_default c.loop-place.seen.items n false w.index.result.now wide ∙ (sym w.index.ensures ∙ w.if-index.false) in
+          let wide : n < length c.loop-index.seen.items = subst (λ k. n < k) (sym c.loop-index.invariant.0) (c.requires.width q 0 (subst (λ k. q < k) (sym c.requires.numbers) c.loop-index-test.true)) in
+          let m : has_met marks pair.target ≡ true = ap (λ (p : Pair). has_met marks p.target) c.index-pairs-index.is ∙ w.if-marks-pairs.true in
+          let seen = seen_at marks pairs numbers q pair c.loop-index-test.true c.index-pairs-index.is m in
+          let free : has_met c.loop-index.seen.items n ≡ false = get_or_default c.loop-index.seen.items n false w.index.result.now wide ∙ (sym w.index.ensures ∙ w.if-index.false) in
           rw w.seen-is (
-            length-set c.loop-place.seen.items n true ∙ c.loop-place.invariant.0,
-            seen_more marks pairs numbers q c.loop-place.seen.items c.loop-place.invariant.1 seen wide,
-            once_more marks pairs numbers q c.loop-place.invariant.2 (once_at marks pairs numbers q c.loop-place.seen.items c.loop-place.invariant.1 free),
+            length-set c.loop-index.seen.items n true ∙ c.loop-index.invariant.0,
+            seen_more marks pairs numbers q c.loop-index.seen.items c.loop-index.invariant.1 seen wide,
+            once_more marks pairs numbers q c.loop-index.invariant.2 (once_at marks pairs numbers q c.loop-index.seen.items c.loop-index.invariant.1 free),
           ))
       | else-marks-pairs w ↦ (
-          let m : has_met marks pair.target ≡ false = ap (λ (p : Pair). has_met marks p.target) c.index-pairs-place.is ∙ w.if-marks-pairs.false in
-          let unseen = unseen_at marks pairs numbers q pair c.loop-place-test.true c.index-pairs-place.is m in
+          let m : has_met marks pair.target ≡ false = ap (λ (p : Pair). has_met marks p.target) c.index-pairs-index.is ∙ w.if-marks-pairs.false in
+          let unseen = unseen_at marks pairs numbers q pair c.loop-index-test.true c.index-pairs-index.is m in
           rw w.seen-is (
-            c.loop-place.invariant.0,
-            seen_skip marks pairs numbers q c.loop-place.seen.items c.loop-place.invariant.1 unseen,
-            once_more marks pairs numbers q c.loop-place.invariant.2 (λ t. unseen t.seen),
+            c.loop-index.invariant.0,
+            seen_skip marks pairs numbers q c.loop-index.seen.items c.loop-index.invariant.1 unseen,
+            once_more marks pairs numbers q c.loop-index.invariant.2 (λ t. unseen t.seen),
           ))
     ]
 
 pub returns : goal.returns
 returns c =
     let marks = c.args.marks.now in let pairs = c.args.pairs.now in let numbers = c.args.numbers.now in
-    let none = none_twice marks pairs numbers c.loop-place.place c.loop-place-test.false c.loop-place.invariant.2 in
+    let none = none_twice marks pairs numbers c.loop-index.index c.loop-index-test.false c.loop-index.invariant.2 in
     (none, none_first marks pairs numbers none)

@@ -24,7 +24,7 @@ returns-then-not-has_shared c =
 pub check_row-requires-clause-marks : goal.check_row-requires-clause-marks
 check_row-requires-clause-marks c =
     let targets = c.args.targets.now in
-    let m = row_marks targets c.args.closures.now c.loop-place.place c.index-closures-place.result c.as_slice-marks.result.now c.requires.closures c.loop-place-test.true c.index-closures-place.is c.as_slice-marks.ensures.value in
+    let m = row_marks targets c.args.closures.now c.loop-index.index c.index-closures-index.result c.as_slice-marks.result.now c.requires.closures c.loop-index-test.true c.index-closures-index.is c.as_slice-marks.ensures.value in
     subst (All (λ (pair : Pair). pair.target < length c.as_slice-marks.result.now)) (sym c.requires.pairs)
     (subst (λ n. All (λ (pair : Pair). pair.target < n) (pairs_of targets)) (sym m.size) (pairs_within targets))
 
@@ -33,22 +33,22 @@ returns-in-Err c =
     let targets = c.args.targets.now in let pairs = c.args.pairs.now in let numbers = c.args.numbers.now in let groups = c.args.groups.now in
     let has = subst (λ (ps : List Pair). HasNumbers (stems_of ps) numbers (length groups)) c.requires.pairs c.requires.numbers in
     let marks = c.as_slice-marks.result.now in
-    let m = row_marks targets c.args.closures.now c.loop-place.place c.index-closures-place.result marks c.requires.closures c.loop-place-test.true c.index-closures-place.is c.as_slice-marks.ensures.value in
+    let m = row_marks targets c.args.closures.now c.loop-index.index c.index-closures-index.result marks c.requires.closures c.loop-index-test.true c.index-closures-index.is c.as_slice-marks.ensures.value in
     passed_on c.in-Err.refusal kinds.StemTwice (IsFirstTwice marks pairs numbers) (IsFirstStemTwice targets) _ _
-    (λ name f. first_stem targets numbers (length groups) has c.loop-place.place marks m name (subst (λ (ps : List Pair). IsFirstTwice marks ps numbers name) c.requires.pairs f) c.loop-place.invariant)
+    (λ name f. first_stem targets numbers (length groups) has c.loop-index.index marks m name (subst (λ (ps : List Pair). IsFirstTwice marks ps numbers name) c.requires.pairs f) c.loop-index.invariant)
     c.in-Err.ensures
 
-pub loop-place-preserved : goal.loop-place-preserved
-loop-place-preserved c =
+pub loop-index-preserved : goal.loop-index-preserved
+loop-index-preserved c =
     let targets = c.args.targets.now in let pairs = c.args.pairs.now in let numbers = c.args.numbers.now in let groups = c.args.groups.now in
     let has = subst (λ (ps : List Pair). HasNumbers (stems_of ps) numbers (length groups)) c.requires.pairs c.requires.numbers in
     let marks = c.as_slice-marks.result.now in
-    let m = row_marks targets c.args.closures.now c.loop-place.place c.index-closures-place.result marks c.requires.closures c.loop-place-test.true c.index-closures-place.is c.as_slice-marks.ensures.value in
-    no_repeat_more targets numbers (length groups) has c.loop-place.place marks m
-    (subst (λ (ps : List Pair). (q : ℕ) → ¬ (IsTwice marks ps numbers q)) c.requires.pairs c.in-Ok.ensures.0) c.loop-place.invariant
+    let m = row_marks targets c.args.closures.now c.loop-index.index c.index-closures-index.result marks c.requires.closures c.loop-index-test.true c.index-closures-index.is c.as_slice-marks.ensures.value in
+    no_repeat_more targets numbers (length groups) has c.loop-index.index marks m
+    (subst (λ (ps : List Pair). (q : ℕ) → ¬ (IsTwice marks ps numbers q)) c.requires.pairs c.in-Ok.ensures.0) c.loop-index.invariant
 
 pub returns : goal.returns
 returns c =
     let targets = c.args.targets.now in
-    let none = no_repeats targets c.loop-place.place (omega (arith, c.loop-place-test.false, lists_size c.args.closures.now, c.requires.closures.size)) c.loop-place.invariant in
+    let none = no_repeats targets c.loop-index.index (omega (arith, c.loop-index-test.false, lists_size c.args.closures.now, c.requires.closures.size)) c.loop-index.invariant in
     (none, no_first_stem targets none)

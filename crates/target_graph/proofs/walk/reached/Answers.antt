@@ -19,8 +19,8 @@ walk-init c =
     subst (λ (m : Met). IsOnWay targets asked m 0) (sym (c.in_ok-meet_all.ensures ∙ ap (λ (m : Met). meet_all m asked) c.in_ok-walk.ensures))
     (set_off targets asked c.requires.asked)
 
-pub bounds-targets-place : goal.bounds-targets-place
-bounds-targets-place c =
+pub bounds-targets-index : goal.bounds-targets-index
+bounds-targets-index c =
     let h : c.walk.at < length c.walk.walk.order.items = omega (arith, c.len.ensures, c.walk.walk.order.ok.0) in
     met_within c.args.targets.now c.args.asked.now (met c.walk.walk) c.walk.at c.index.result.now c.walk.invariant h c.index.ensures
 
@@ -28,18 +28,18 @@ pub meet_all-requires-in-walk : goal.meet_all-requires-in-walk
 meet_all-requires-in-walk c =
     let h : c.walk.at < length c.walk.walk.order.items = omega (arith, c.len.ensures, c.walk.walk.order.ok.0) in
     let size = met_within c.args.targets.now c.args.asked.now (met c.walk.walk) c.walk.at c.index.result.now c.walk.invariant h c.index.ensures in
-    subst (λ (xs : List ℕ). All (λ d. d < length c.walk.walk.marks.items) xs) (sym (c.as_slice.ensures ∙ ap (λ (x : Target). x.dependencies) (sym c.index-targets-place.is)))
-    (inside_marks c.args.targets.now c.args.asked.now (met c.walk.walk) c.walk.at c.index.result.now c.index-targets-place.result
-    c.requires.closed c.walk.invariant size c.index-targets-place.is)
+    subst (λ (xs : List ℕ). All (λ d. d < length c.walk.walk.marks.items) xs) (sym (c.as_slice.ensures ∙ ap (λ (x : Target). x.dependencies) (sym c.index-targets-index.is)))
+    (inside_marks c.args.targets.now c.args.asked.now (met c.walk.walk) c.walk.at c.index.result.now c.index-targets-index.result
+    c.requires.closed c.walk.invariant size c.index-targets-index.is)
 
 pub walk-preserved : goal.walk-preserved
 walk-preserved c =
     let targets = c.args.targets.now in
     let asked = c.args.asked.now in
     let h : c.walk.at < length c.walk.walk.order.items = omega (arith, c.len.ensures, c.walk.walk.order.ok.0) in
-    subst (λ (m : Met). IsOnWay targets asked m (c.walk.at + 1)) (sym (c.in_ok-meet_all-2.ensures ∙ ap (meet_all (met c.walk.walk)) (c.as_slice.ensures ∙ ap (λ (x : Target). x.dependencies) (sym c.index-targets-place.is))))
-    (go_on targets asked (met c.walk.walk) c.walk.at c.index.result.now c.index-targets-place.result
-    c.requires.closed c.walk.invariant h c.index.ensures c.index-targets-place.is)
+    subst (λ (m : Met). IsOnWay targets asked m (c.walk.at + 1)) (sym (c.in_ok-meet_all-2.ensures ∙ ap (meet_all (met c.walk.walk)) (c.as_slice.ensures ∙ ap (λ (x : Target). x.dependencies) (sym c.index-targets-index.is))))
+    (go_on targets asked (met c.walk.walk) c.walk.at c.index.result.now c.index-targets-index.result
+    c.requires.closed c.walk.invariant h c.index.ensures c.index-targets-index.is)
 
 pub walk-smaller : goal.walk-smaller
 walk-smaller c =

@@ -3,7 +3,7 @@ use Rattle.std.proofs.lemmas.Result.{IfOk-weaker}
 use Rattle.target_graph.specs.declared.target.Target.{Target}
 use Rattle.target_graph.specs.Workspace.{Space}
 use Rattle.target_graph.specs.Walk.{AreClosed, AreMarks}
-use Rattle.target_graph.proofs.Marked.{closure_of, places_within}
+use Rattle.target_graph.proofs.Marked.{closure_of, indices_within}
 use Rattle.target_graph.proofs.workspace.Workspace.closure.Goals as goal
 
 pub reached-requires : goal.reached-requires
@@ -28,6 +28,6 @@ returns c =
     subst (λ (ms : List Bool). AreMarks c.args.self.now.targets c.args.targets.now ms) (sym c.as_slice-2.ensures.value)
     (subst (λ (xs : List Target). AreMarks xs c.args.targets.now c.in_ok-marks.marks.items) (c.as_slice.ensures.value ∙ ts) c.in_ok-marks.ensures) in
     record {
-      closure = IfOk-weaker c.marked.result _ _ (λ places m. closure_of c.args.self.now.targets c.args.targets.now c.as_slice-2.result.now places.items marks m) c.marked.ensures;
-      within = IfOk-weaker c.marked.result _ _ (λ places m. places_within c.args.self.now.targets c.args.targets.now c.as_slice-2.result.now places.items marks m) c.marked.ensures;
+      closure = IfOk-weaker c.marked.result _ _ (λ indices m. closure_of c.args.self.now.targets c.args.targets.now c.as_slice-2.result.now indices.items marks m) c.marked.ensures;
+      within = IfOk-weaker c.marked.result _ _ (λ indices m. indices_within c.args.self.now.targets c.args.targets.now c.as_slice-2.result.now indices.items marks m) c.marked.ensures;
     }

@@ -8,7 +8,7 @@ use Rattle.target_graph.proofs.Ids.{path_here}
 use Rattle.target_graph.proofs.PairLaws.{path_valid}
 use Rattle.target_graph.proofs.workspace.Workspace.document_of.Goals as goal
 
--- the path of the pair is the one at its place
+-- the path of the pair is the one at its index
 path_is : (c : goal.After-index) → c.index.result.now.path ≡ path_at c.args.self.now.targets c.args.pair
 path_is c =
     let targets = c.args.self.now.targets in

@@ -29,8 +29,8 @@ returns-in-Some-clause-inverse c =
     subst (λ (r : List ℕ). IsCut uri r (option_copied other)) again
     (cut_printed uri c.as_slice-in-Some-3.result.now c.as_slice-in-Some-2.result.now other told c.behind.ensures.some c.behind.ensures.none) in
     IfOk-weaker c.listing.result _ _
-    (λ places l. inverse_of space uri front own (option_copied other) places.items root some none cut
-    (subst (λ (xs : List Target). AreListers xs (option_copied own) (option_copied other) places.items) (c.as_slice-in-Some.ensures.value ∙ ts) l))
+    (λ indices l. inverse_of space uri front own (option_copied other) indices.items root some none cut
+    (subst (λ (xs : List Target). AreListers xs (option_copied own) (option_copied other) indices.items) (c.as_slice-in-Some.ensures.value ∙ ts) l))
     c.listing.ensures.listers
 
 pub returns-clause-inverse : goal.returns-clause-inverse
@@ -45,16 +45,16 @@ returns-clause-inverse c =
     let none = subst (λ (u : List ℕ). IfNone own ((rest : List ℕ) → u ≢ front ++ rest)) c.as_bytes.ensures.value c.behind-own.ensures.none in
     let told : printed uri ≡ None = sym c.in_ok-printed.ensures ∙ c.in-None.is in
     IfOk-weaker c.listing-in-None.result _ _
-    (λ places l. inverse_of space uri front own None places.items root some none (cut_none uri front told)
-    (subst (λ (xs : List Target). AreListers xs (option_copied own) None places.items) (c.as_slice-in-None.ensures.value ∙ ts) l))
+    (λ indices l. inverse_of space uri front own None indices.items root some none (cut_none uri front told)
+    (subst (λ (xs : List Target). AreListers xs (option_copied own) None indices.items) (c.as_slice-in-None.ensures.value ∙ ts) l))
     c.listing-in-None.ensures.listers
 
 pub returns-in-Some-clause-few : goal.returns-in-Some-clause-few
 returns-in-Some-clause-few c =
     let size = ap (λ (xs : List Target). length xs) c.as_slice-in-Some.ensures.value in
-    IfOk-weaker c.listing.result _ _ (λ places few. omega (arith, few, size, c.self.invariant.sound.few)) c.listing.ensures.few
+    IfOk-weaker c.listing.result _ _ (λ indices few. omega (arith, few, size, c.self.invariant.sound.few)) c.listing.ensures.few
 
 pub returns-clause-few : goal.returns-clause-few
 returns-clause-few c =
     let size = ap (λ (xs : List Target). length xs) c.as_slice-in-None.ensures.value in
-    IfOk-weaker c.listing-in-None.result _ _ (λ places few. omega (arith, few, size, c.self.invariant.sound.few)) c.listing-in-None.ensures.few
+    IfOk-weaker c.listing-in-None.result _ _ (λ indices few. omega (arith, few, size, c.self.invariant.sound.few)) c.listing-in-None.ensures.few

@@ -6,8 +6,8 @@ use Rattle.target_graph.proofs.Ids.{found_target, no_root, no_mark, only_one}
 use Rattle.target_graph.proofs.NamedLaws.{placed}
 use Rattle.target_graph.proofs.workspace.Workspace.target_at.Goals as goal
 
-pub place_of-requires : goal.place_of-requires
-place_of-requires c =
+pub index_of-requires : goal.index_of-requires
+index_of-requires c =
     let a = ap (λ (xs : List (List ℕ)). length xs) c.self.invariant.sound.names in
     let b = length-map c.self.inside.targets.items (λ (t : Target). t.name) in
     record { few = omega (arith, a, b, c.self.invariant.sound.few) }
@@ -38,9 +38,9 @@ returns c =
     let root : c.as_slice.result.now ≡ space.root = c.as_slice.ensures.text ∙ ap (λ (s : Space). s.root) c.self.view_is in
     let same = c.self.invariant.sound.names ∙ ap (map (λ (t : Target). t.name)) ts in
     let both = found_target space keys same c.args.text.now c.as_slice.result.now c.in-Some.rest.now c.in_ok-name.name root c.in-Some.ensures.some
-    (c.in-Some-behind.ensures.some ∙ ap (λ (x : List ℕ). codes "?id=" ++ x) (sym c.in_ok-name.ensures)) c.place_of.result c.place_of.ensures.some c.place_of.ensures.none in
-    let one = only_one space keys same c.self.invariant.sound.distinct c.args.text.now c.place_of.result both.0 both.1 in
-    record { some = both.0; none = both.1; one = one; named = placed space c.args.text.now c.place_of.result both.0 both.1 one }
+    (c.in-Some-behind.ensures.some ∙ ap (λ (x : List ℕ). codes "?id=" ++ x) (sym c.in_ok-name.ensures)) c.index_of.result c.index_of.ensures.some c.index_of.ensures.none in
+    let one = only_one space keys same c.self.invariant.sound.distinct c.args.text.now c.index_of.result both.0 both.1 in
+    record { some = both.0; none = both.1; one = one; named = placed space c.args.text.now c.index_of.result both.0 both.1 one }
 
 pub returns-in_default-clause-one : goal.returns-in_default-clause-one
 returns-in_default-clause-one c = λ t h e. absurd (returns-in_default-clause-none c t h e)
