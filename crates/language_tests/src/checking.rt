@@ -1,6 +1,6 @@
 //! `diagnose`: the diagnostics of whole documents.
 use crate::texts::{listed, repeated};
-use ob_text::{Code, Diagnostic, Held, TEXT_LIMIT, Text};
+use ob_text::{Code, Diagnostic, Held, Text};
 use oberon_check::diagnose;
 use std::alloc::Global;
 use std::test::Fail;
@@ -32,7 +32,7 @@ const TABLE: [(&str, &str); 14] = [
 
 /// The diagnostics of a text.
 fn found(alloc: Global, text: &str) -> Result<Vec<Diagnostic>, Fail> {
-    if text.len() > TEXT_LIMIT {
+    if text.len() > 262_144 {
         return Err(Fail::from("too long"));
     }
     let held = Held::Text(Text::new(alloc, text.as_bytes())?);

@@ -2,9 +2,11 @@
 //! and may know trees, and nothing of texts nor of the server. Begin reading at `specs/Imports.antt`.
 #![tactic(auto)]
 
-ghost use Rattle.std.specs.Prelude.{◌≡◌, IfOk, OnOk};
+ghost use Rattle.std.specs.Prelude.{◌≡◌, ◌==◌, IfOk, OnOk};
+ghost use Rattle.std.specs.Cmp.Lexicographic.{pointwise};
+ghost use Rattle.ob_text.specs.Once.{once_more};
 ghost use Rattle.oberon_tree.specs.Memory.{tree_of};
-ghost use Rattle.oberon_imports.specs.Imports.{imported_name, imports_in, once_more};
+ghost use Rattle.oberon_imports.specs.Imports.{imported_name, imports_in};
 
 use indexmap::IndexSet;
 use ob_text::{Name, NoMemory};
@@ -26,7 +28,8 @@ pub fn imports_of(alloc: Global, tree: &Tree) -> Result<Vec<Name>, NoMemory>
 }
 
 fn add(alloc: Global, names: &mut IndexSet<Name>, import: &Import) -> Result<(), NoMemory>
-    ensures { OnOk result (names.new.keys ≡ once_more names.old.keys (imported_name import.now)) }
+    ensures { OnOk result (names.new.keys
+        ≡ once_more (pointwise ◌==◌) names.old.keys (imported_name import.now)) }
 {
     names.insert(imported(import).copy(alloc)?)?;
     Ok(())
