@@ -1,6 +1,6 @@
 ghost use Rattle.std.specs.Prelude.{◌≡◌, ◌∷◌, ◌<◌, [], List, IfOk, length};
 ghost use Rattle.std.specs.List.{All};
-ghost use Rattle.bsp_edge.specs.Documents.{IsReadable, IsDocument};
+ghost use Rattle.ob_text.specs.Held.{IsReadable, IsDocument};
 ghost use Rattle.ob_text.specs.Position.{IsPart};
 ghost use Rattle.ob_text.specs.declared.diagnostic.Diagnostic.{Diagnostic};
 ghost use Rattle.oberon_scan.specs.Lexis.{Lex, too_many_bytes};
