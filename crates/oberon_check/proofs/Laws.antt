@@ -7,17 +7,17 @@ use Rattle.ob_text.specs.declared.diagnostic.Diagnostic.{Diagnostic}
 use Rattle.ob_text.specs.declared.code.Code.TheVariants as codes_of
 use Rattle.ob_text.specs.declared.held.Held.{Held}
 use Rattle.ob_text.specs.declared.held.Held.TheVariants.{Text, Absent, TooLarge, NotText}
-use Rattle.oberon_scan.specs.Lexis.{Lex, Cuts, fault_of, place_of, without_mark}
+use Rattle.oberon_scan.specs.Lexis.{Lex, Cuts, fault_of, offset_of, without_mark}
 use Rattle.oberon_scan.specs.declared.token.Token.{Token}
-use Rattle.oberon_scan.proofs.Going.{gap_goes, reads_goes, fails_goes}
-use Rattle.oberon_check.specs.Diagnosed.{Diagnosed, FaultsDiagnosed, IsNameless, IsInOrder, no_document, bad_token, bad_span}
+use Rattle.oberon_scan.proofs.Going.{gap_goes, token_goes, fault_goes}
+use Rattle.oberon_check.specs.Diagnosed.{Diagnosed, FaultsDiagnosed, IsNameless, IsAscending, no_document, bad_token, bad_span}
 use Rattle.oberon_check.proofs.Parts.{mark_within}
 
--- what is shown, and is behind a place
+-- what is shown, and stands from an offset on
 pub record AreShown (low : ℕ) (list : List Diagnostic) : Type 0 where
   pub nameless : All IsNameless list
   pub behind : All (λ d. low ≤ d.span.start) list
-  pub in_order : IsInOrder list
+  pub in_order : IsAscending list
 
 none_shown : (low : ℕ) → AreShown low []
 none_shown low =
@@ -37,17 +37,17 @@ one_more low first list n h high l s =
       in_order = AllPairs-cons (λ (x y : Diagnostic). x.span.start < y.span.start) first list after s.in_order;
     }
 
-faults_shown : {text rest : List ℕ} {tokens : List Token} {faults : List Diagnostic} → Cuts text rest tokens faults → length rest ≤ length text → AreShown (place_of text rest) faults
-faults_shown {text} Cuts.done h = none_shown (place_of text [])
+faults_shown : {text rest : List ℕ} {tokens : List Token} {faults : List Diagnostic} → Cuts text rest tokens faults → length rest ≤ length text → AreShown (offset_of text rest) faults
+faults_shown {text} Cuts.done h = none_shown (offset_of text [])
 faults_shown {text} (Cuts.gap {rest = rest} {after = after} {ds = ds} g c) h =
     let p = gap_goes g in
-    lower (place_of text rest) (place_of text after) ds (omega (arith, p.shorter, h)) (faults_shown c (omega (arith, p.shorter, h)))
+    lower (offset_of text rest) (offset_of text after) ds (omega (arith, p.shorter, h)) (faults_shown c (omega (arith, p.shorter, h)))
 faults_shown {text} (Cuts.token {rest = rest} {after = after} {ds = ds} kind r c) h =
-    let p = reads_goes r in
-    lower (place_of text rest) (place_of text after) ds (omega (arith, p.shorter, h)) (faults_shown c (omega (arith, p.shorter, h)))
+    let p = token_goes r in
+    lower (offset_of text rest) (offset_of text after) ds (omega (arith, p.shorter, h)) (faults_shown c (omega (arith, p.shorter, h)))
 faults_shown {text} (Cuts.fault {rest = rest} {after = after} {ds = ds} code n f c) h =
-    let p = fails_goes f in
-    one_more (place_of text rest) (fault_of text (place_of text rest) code n) ds refl (omega arith) (place_of text after) (omega (arith, p.shorter, h)) (faults_shown c (omega (arith, p.shorter, h)))
+    let p = fault_goes f in
+    one_more (offset_of text rest) (fault_of text (offset_of text rest) code n) ds refl (omega arith) (offset_of text after) (omega (arith, p.shorter, h)) (faults_shown c (omega (arith, p.shorter, h)))
 
 one_shown : (list : List Diagnostic) (first : Diagnostic) → list ≡ first ∷ [] → IsNameless first → AreShown 0 list
 one_shown list first e n =
@@ -55,9 +55,9 @@ one_shown list first e n =
 
 text_shown : (text : List ℕ) (tokens : List Token) (faults list : List Diagnostic) → Lex text tokens faults → FaultsDiagnosed text tokens faults list → AreShown 0 list
 text_shown text tokens [] list c (inl clean) = subst (AreShown 0) (sym clean.1) (none_shown 0)
-text_shown text tokens [] list c (inr bad) = one_shown list (bad_token text (bad_span tokens bad.place)) bad.only refl
+text_shown text tokens [] list c (inr bad) = one_shown list (bad_token text (bad_span tokens bad.index)) bad.only refl
 text_shown text tokens (fault ∷ faults) list c e =
-    subst (AreShown 0) (sym e) (lower 0 (place_of text (without_mark text)) (fault ∷ faults) (omega arith) (faults_shown c (mark_within text)))
+    subst (AreShown 0) (sym e) (lower 0 (offset_of text (without_mark text)) (fault ∷ faults) (omega arith) (faults_shown c (mark_within text)))
 
 pub shown : (held : Held) (list : List Diagnostic) → Diagnosed held list → AreShown 0 list
 shown (Text text) list d = text_shown text d.tokens d.faults list d.lexis d.found
@@ -68,5 +68,5 @@ shown NotText list d = one_shown list (no_document codes_of.DocumentNotText) d r
 pub all_nameless : (held : Held) (list : List Diagnostic) → Diagnosed held list → All IsNameless list
 all_nameless held list d = (shown held list d).nameless
 
-pub all_in_order : (held : Held) (list : List Diagnostic) → Diagnosed held list → IsInOrder list
+pub all_in_order : (held : Held) (list : List Diagnostic) → Diagnosed held list → IsAscending list
 all_in_order held list d = (shown held list d).in_order

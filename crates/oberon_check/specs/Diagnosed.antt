@@ -8,8 +8,7 @@ use Rattle.ob_text.specs.declared.diagnostic.Diagnostic.{Diagnostic}
 use Rattle.ob_text.specs.declared.held.Held.{Held}
 use Rattle.ob_text.specs.declared.held.Held.TheVariants.{Text, Absent, TooLarge, NotText}
 use Rattle.ob_text.specs.declared.span.Span.{Span}
-use Rattle.oberon_parse.specs.Sentence.{IsFirstBad, IsSentence}
-use Rattle.oberon_parse.specs.declared.whole.TheConstants.{LEVELS}
+use Rattle.oberon_parse.specs.Sentence.{IsFirstBad, IsSentence, most_levels}
 use Rattle.oberon_scan.specs.Lexis.{Lex}
 use Rattle.oberon_scan.specs.declared.token.Token.{Token}
 
@@ -25,13 +24,13 @@ no_document code =
       name = None;
     }
 
--- where the last token ends, or place 0 where there is none
-abbrev pub end_of : List Token → ℕ
-end_of tokens = elim (slice_get tokens (length tokens - 1)) [ None ↦ 0 | Some token ↦ token.span.end ]
+-- where the last token ends, or offset 0 where there is none
+abbrev pub end_of_tokens : List Token → ℕ
+end_of_tokens tokens = elim (slice_get tokens (length tokens - 1)) [ None ↦ 0 | Some token ↦ token.span.end ]
 
 -- where a first bad token is shown: at the token, or at the end where all tokens begin a module and are none
 abbrev pub bad_span : List Token → ℕ → Span
-bad_span tokens place = elim (slice_get tokens place) [ None ↦ record { start = end_of tokens; end = end_of tokens } | Some token ↦ token.span ]
+bad_span tokens index = elim (slice_get tokens index) [ None ↦ record { start = end_of_tokens tokens; end = end_of_tokens tokens } | Some token ↦ token.span ]
 
 abbrev pub bad_token : List ℕ → Span → Diagnostic
 bad_token text span = record { span = span; range = range_at text span; code = codes_of.BadToken; name = None }
@@ -40,13 +39,13 @@ bad_token text span = record { span = span; range = range_at text span; code = c
 
 -- the tokens are no module: the first one that no module goes on with is bad
 pub record HasBadToken (text : List ℕ) (tokens : List Token) (list : List Diagnostic) : Type 0 where
-  pub place : ℕ
-  pub first : IsFirstBad LEVELS tokens place
-  pub only : list ≡ bad_token text (bad_span tokens place) ∷ []
+  pub index : ℕ
+  pub first : IsFirstBad most_levels tokens index
+  pub only : list ≡ bad_token text (bad_span tokens index) ∷ []
 
 -- a text without lexical faults, by its tokens
 abbrev pub TokensDiagnosed : List ℕ → List Token → List Diagnostic → Type 0
-TokensDiagnosed text tokens list = (IsSentence LEVELS tokens × (list ≡ [])) ⊎ HasBadToken text tokens list
+TokensDiagnosed text tokens list = (IsSentence most_levels tokens × (list ≡ [])) ⊎ HasBadToken text tokens list
 
 -- a text with lexical faults has these alone
 abbrev pub FaultsDiagnosed : List ℕ → List Token → List Diagnostic → List Diagnostic → Type 0
@@ -72,6 +71,6 @@ Diagnosed NotText list = list ≡ no_document codes_of.DocumentNotText ∷ []
 abbrev pub IsNameless : Diagnostic → Type 0
 IsNameless diagnostic = diagnostic.name ≡ None
 
--- each begins behind the place where the one before it begins
-abbrev pub IsInOrder : List Diagnostic → Type 0
-IsInOrder list = AllPairs (λ first second. first.span.start < second.span.start) list
+-- each begins at a later offset than the one before it
+abbrev pub IsAscending : List Diagnostic → Type 0
+IsAscending list = AllPairs (λ first second. first.span.start < second.span.start) list

@@ -1,10 +1,10 @@
-ghost use Rattle.std.specs.Prelude.{◌≡◌, ◌∷◌, ◌<◌, ◌^◌, [], List, IfOk, length};
+ghost use Rattle.std.specs.Prelude.{◌≡◌, ◌∷◌, ◌<◌, [], List, IfOk, length};
 ghost use Rattle.std.specs.List.{All};
-ghost use Rattle.bsp_edge.specs.Documents.{IsReadable, IsDocument};
+ghost use Rattle.ob_text.specs.Held.{IsReadable, IsDocument};
 ghost use Rattle.ob_text.specs.Position.{IsPart};
 ghost use Rattle.ob_text.specs.declared.diagnostic.Diagnostic.{Diagnostic};
-ghost use Rattle.oberon_scan.specs.Lexis.{Lex};
-ghost use Rattle.oberon_check.specs.Diagnosed.{Diagnosed, TextDiagnosed, TokensDiagnosed, IsNameless, IsInOrder, bad_token, bad_span, end_of, no_document};
+ghost use Rattle.oberon_scan.specs.Lexis.{Lex, too_many_bytes};
+ghost use Rattle.oberon_check.specs.Diagnosed.{Diagnosed, TextDiagnosed, TokensDiagnosed, IsNameless, IsAscending, bad_token, bad_span, end_of_tokens, no_document};
 
 use ob_text::{Code, Cursor, Diagnostic, Held, NoMemory, Position, Range, Span};
 use oberon_parse::{ParseRefusal, parse};
@@ -20,7 +20,7 @@ pub fn diagnose(alloc: Global, held: &Held) -> Result<Vec<Diagnostic>, NoMemory>
     // A document has no other list.
     ensures only { IfOk result (λ list. (other : List Diagnostic) → Diagnosed held.now other → other ≡ list.items) }
     ensures nameless { IfOk result (λ list. All IsNameless list.items) }
-    ensures in_order { IfOk result (λ list. IsInOrder list.items) }
+    ensures in_order { IfOk result (λ list. IsAscending list.items) }
 {
     match held {
         Held::Text(text) => diagnose_text(alloc, text.as_slice()),
@@ -49,33 +49,33 @@ fn diagnose_tokens(
     tokens: &[Token],
 ) -> Result<Vec<Diagnostic>, NoMemory>
     requires lexis { Lex text.now tokens.now [] }
-    requires room { length text.now < 2 ^ 30 }
+    requires room { length text.now < too_many_bytes }
     ensures { IfOk result (λ list. TokensDiagnosed text.now tokens.now list.items) }
 {
     match parse(alloc, tokens) {
         Ok(_) => Ok(Vec::new(alloc)),
-        Err(ParseRefusal::FirstBad(place)) => one(alloc, bad_token(text, bad_span(tokens, place))),
+        Err(ParseRefusal::FirstBad(index)) => one(alloc, bad_token(text, bad_span(tokens, index))),
         Err(ParseRefusal::NoMemory) => Err(NoMemory),
     }
 }
 
 /// Where a first bad token is shown: at the token, or at the end where all tokens begin a module and are
 /// none.
-fn bad_span(tokens: &[Token], place: usize) -> Span
-    ensures { result ≡ bad_span tokens.now place }
+fn bad_span(tokens: &[Token], index: usize) -> Span
+    ensures { result ≡ bad_span tokens.now index }
 {
-    match tokens.get(place) {
+    match tokens.get(index) {
         Some(token) => token.span,
         None => {
-            let end = end_of(tokens);
+            let end = end_of_tokens(tokens);
             Span { start: end, end }
         }
     }
 }
 
-/// Where the last token ends, or place 0 where there is none.
-fn end_of(tokens: &[Token]) -> u32
-    ensures { result ≡ end_of tokens.now }
+/// Where the last token ends, or offset 0 where there is none.
+fn end_of_tokens(tokens: &[Token]) -> u32
+    ensures { result ≡ end_of_tokens tokens.now }
 {
     match tokens.last() {
         Some(token) => token.span.end,

@@ -1,8 +1,9 @@
-//! What is wrong with a document: its diagnostics, from what is held at its path alone.
+//! What is wrong with a document: its diagnostics, from what is held at its path alone. It stands on
+//! `oberon_scan` and `oberon_parse`, and on `ob_text` for what a document is; it may know the language, and
+//! nothing of a workspace. Begin reading at `specs/Diagnosed.antt`, which says what a document's list is, and at
+//! `document.rt`, where `diagnose` finds it.
 #![tactic(auto)]
 
 mod document;
-#[cfg(test)]
-mod tests;
 
 pub use document::diagnose;

@@ -1,8 +1,12 @@
-//! The modules that a module imports (The Programming Language Oberon-07, section 11).
+//! The modules that a module imports (The Programming Language Oberon-07, section 11). It stands on `oberon_tree`,
+//! and may know trees, and nothing of texts nor of the server. Begin reading at `specs/Imports.antt`.
 #![tactic(auto)]
 
-ghost use Rattle.std.specs.Prelude.{◌≡◌, IfOk, OnOk};
-ghost use Rattle.oberon_imports.specs.Imports.{imported_name, imports_in, once_more};
+ghost use Rattle.std.specs.Prelude.{◌≡◌, ◌==◌, IfOk, OnOk};
+ghost use Rattle.std.specs.Cmp.Lexicographic.{pointwise};
+ghost use Rattle.ob_text.specs.Once.{once_more};
+ghost use Rattle.oberon_tree.specs.Memory.{tree_of};
+ghost use Rattle.oberon_imports.specs.Imports.{imported_name, imports_in};
 
 use indexmap::IndexSet;
 use ob_text::{Name, NoMemory};
@@ -11,7 +15,7 @@ use std::alloc::Global;
 
 /// The names of the modules that a module imports, each once, in the order of the text.
 pub fn imports_of(alloc: Global, tree: &Tree) -> Result<Vec<Name>, NoMemory>
-    ensures { IfOk result (λ names. names.items ≡ imports_in tree.now) }
+    ensures { IfOk result (λ names. names.items ≡ imports_in (tree_of tree.now)) }
 {
     let mut names: IndexSet<Name> = IndexSet::new(alloc);
     if let Some(imports) = &tree.root().imports {
@@ -24,7 +28,8 @@ pub fn imports_of(alloc: Global, tree: &Tree) -> Result<Vec<Name>, NoMemory>
 }
 
 fn add(alloc: Global, names: &mut IndexSet<Name>, import: &Import) -> Result<(), NoMemory>
-    ensures { OnOk result (names.new.keys ≡ once_more names.old.keys (imported_name import.now)) }
+    ensures { OnOk result (names.new.keys
+        ≡ once_more (pointwise ◌==◌) names.old.keys (imported_name import.now)) }
 {
     names.insert(imported(import).copy(alloc)?)?;
     Ok(())
@@ -39,6 +44,3 @@ fn imported(import: &Import) -> &Name
         None => &import.name.name,
     }
 }
-
-#[cfg(test)]
-mod tests;

@@ -4,7 +4,7 @@ use Rattle.std.specs.Prelude.{◌≡◌, ℕ, zero, suc, ◌≤◌, Bool, true, 
 use Rattle.std.proofs.Common.{◌∙◌, ap, subst, arith}
 use Rattle.oberon_scan.specs.declared.token.Symbol.{Symbol}
 use Rattle.oberon_tree.specs.declared.statement.LabelValue.TheVariants as values
-use Rattle.oberon_tree.specs.Trees.{expr_of, RelationTree, relation_of, simple_of, more_addends, term_of, more_multipliers, place_factor, group_factor, negation_factor, set_factor, set_of, no_elements, some_elements, more_elements, element_of, upper_of, designator_of, more_selectors, field_selector, index_selector, call_selector, no_arguments, some_arguments, exprs_of, more_exprs}
+use Rattle.oberon_tree.specs.Trees.{expr_of, RelationTree, relation_of, simple_of, more_addends, term_of, more_multipliers, designator_factor, group_factor, negation_factor, set_factor, set_of, no_elements, some_elements, more_elements, element_of, upper_of, designator_of, more_selectors, field_selector, index_selector, call_selector, no_arguments, some_arguments, exprs_of, more_exprs}
 use Rattle.oberon_tree.specs.Trees.{named_type, array_type, record_type, record_of, no_fields, some_fields, more_fields, fields_of}
 use Rattle.oberon_tree.specs.Trees.{step_of, statements_of, more_statements, assign_statement, call_statement, if_statement, case_statement, while_statement, repeat_statement, for_statement, if_of, guarded_of, more_elsifs, else_of, case_of, labelled_arm, more_arms, while_of, repeat_of, for_of}
 use Rattle.oberon_tree.specs.Levels.{depth_of_expr}
@@ -21,7 +21,7 @@ use Rattle.oberon_tree.specs.Print.{print_factor, print_selectors, print_some, p
 use Rattle.oberon_tree.specs.Levels.{depth_of_expr, depth_of_selectors, depth_of_some}
 use Rattle.oberon_parse.specs.Expected.{Expected}
 use Rattle.oberon_parse.specs.Expected as want
-use Rattle.oberon_parse.specs.Tests.{is_word, is_symbol, is_ident, is_literal, is_sign, is_constant, rank}
+use Rattle.oberon_parse.specs.Tests.{is_word, is_symbol, is_ident, is_literal, is_sign, is_constant, reach}
 use Rattle.oberon_parse.specs.Machine.{Move, takes, passes, refuses, needs, allows, deeper, begins_factor, begins_expr, move, term_parts, simple_parts, expr_parts, exprs_parts, element_parts, qualident_parts, ident_defs_parts, idents_parts, fields_parts, label_parts, statements_parts, guarded_parts, section_parts, section_tail, procedure_parts, import_parts}
 use Rattle.oberon_parse.proofs.Found.{word_found, symbol_found}
 use Rattle.oberon_parse.proofs.Operators.{relator_found, add_found, mul_found, sign_found, ident_found, value_found, constant_found}
@@ -105,7 +105,7 @@ take_some_sign t u rest xs e q = from_allows (is_sign t.kind) [] xs u rest e q (
 
 factor_take : (d : ℕ) (t : Token) (more xs : List Expected) (u rest : List Token) → begins_factor d t.kind more ≡ takes xs → Parts xs u rest → (mid : List Token) × Part (want.factor d) (t ∷ u) mid × Parts more mid rest
 factor_take d t more xs u rest e q =
-    from_cond (is_constant t.kind) (takes more) _ xs e (λ f g. let c = constant_found t f in (u, record { tree = c.0; spelled = c.1 u; within = omega (arith, c.2) }, from_takes more xs u rest g q)) (λ f1 e1. from_cond (is_ident t.kind) (takes (want.selectors d ∷ more)) _ xs e1 (λ f g. let i = ident_found t f in let r = parts_split (want.selectors d ∷ []) more u rest (from_takes (want.selectors d ∷ more) xs u rest g q) in (r.0, record { tree = place_factor (designator_of i.0 r.1.trees.0); spelled = cons2 i.1 r.1.spelled; within = r.1.within.0 }, r.2)) (λ f2 e2. from_cond (is_symbol symbols.OpenParen t.kind) (deeper d (λ n. expr_parts n ++ want.symbol symbols.CloseParen ∷ more)) _ xs e2 (λ f g. from_deeper d (λ n. expr_parts n ++ want.symbol symbols.CloseParen ∷ more) xs u rest g q (λ n j p. let r = parts_split (expr_parts n ++ want.symbol symbols.CloseParen ∷ []) more u rest p in (r.0, record { tree = group_factor t.span (expr_at r.1.trees) (behind r.1.trees).0; spelled = cons2 (symbol_found symbols.OpenParen t f) r.1.spelled; within = omega (arith, j, r.1.within) }, r.2))) (λ f3 e3. from_cond (is_symbol symbols.Tilde t.kind) (deeper d (λ n. want.factor n ∷ more)) _ xs e3 (λ f g. from_deeper d (λ n. want.factor n ∷ more) xs u rest g q (λ n j p. let r = parts_split (want.factor n ∷ []) more u rest p in (r.0, record { tree = negation_factor t.span r.1.trees.0; spelled = cons2 (symbol_found symbols.Tilde t f) r.1.spelled; within = omega (arith, j, r.1.within) }, r.2))) (λ f4 e4. from_cond (is_symbol symbols.OpenBrace t.kind) (deeper d (λ n. want.rest_of_set n ∷ more)) _ xs e4 (λ f g. from_deeper d (λ n. want.rest_of_set n ∷ more) xs u rest g q (λ n j p. let r = parts_split (want.rest_of_set n ∷ []) more u rest p in (r.0, record { tree = set_factor (set_of t.span r.1.trees.0.0 r.1.trees.0.1); spelled = cons2 (symbol_found symbols.OpenBrace t f) r.1.spelled; within = omega (arith, j, r.1.within) }, r.2))) (λ f5 e5. from_refuses xs e5)))))
+    from_cond (is_constant t.kind) (takes more) _ xs e (λ f g. let c = constant_found t f in (u, record { tree = c.0; spelled = c.1 u; within = omega (arith, c.2) }, from_takes more xs u rest g q)) (λ f1 e1. from_cond (is_ident t.kind) (takes (want.selectors d ∷ more)) _ xs e1 (λ f g. let i = ident_found t f in let r = parts_split (want.selectors d ∷ []) more u rest (from_takes (want.selectors d ∷ more) xs u rest g q) in (r.0, record { tree = designator_factor (designator_of i.0 r.1.trees.0); spelled = cons2 i.1 r.1.spelled; within = r.1.within.0 }, r.2)) (λ f2 e2. from_cond (is_symbol symbols.OpenParen t.kind) (deeper d (λ n. expr_parts n ++ want.symbol symbols.CloseParen ∷ more)) _ xs e2 (λ f g. from_deeper d (λ n. expr_parts n ++ want.symbol symbols.CloseParen ∷ more) xs u rest g q (λ n j p. let r = parts_split (expr_parts n ++ want.symbol symbols.CloseParen ∷ []) more u rest p in (r.0, record { tree = group_factor t.span (expr_at r.1.trees) (behind r.1.trees).0; spelled = cons2 (symbol_found symbols.OpenParen t f) r.1.spelled; within = omega (arith, j, r.1.within) }, r.2))) (λ f3 e3. from_cond (is_symbol symbols.Tilde t.kind) (deeper d (λ n. want.factor n ∷ more)) _ xs e3 (λ f g. from_deeper d (λ n. want.factor n ∷ more) xs u rest g q (λ n j p. let r = parts_split (want.factor n ∷ []) more u rest p in (r.0, record { tree = negation_factor t.span r.1.trees.0; spelled = cons2 (symbol_found symbols.Tilde t f) r.1.spelled; within = omega (arith, j, r.1.within) }, r.2))) (λ f4 e4. from_cond (is_symbol symbols.OpenBrace t.kind) (deeper d (λ n. want.rest_of_set n ∷ more)) _ xs e4 (λ f g. from_deeper d (λ n. want.rest_of_set n ∷ more) xs u rest g q (λ n j p. let r = parts_split (want.rest_of_set n ∷ []) more u rest p in (r.0, record { tree = set_factor (set_of t.span r.1.trees.0.0 r.1.trees.0.1); spelled = cons2 (symbol_found symbols.OpenBrace t f) r.1.spelled; within = omega (arith, j, r.1.within) }, r.2))) (λ f5 e5. from_refuses xs e5)))))
 
 take_factor : (d : ℕ) → Taken (want.factor d)
 take_factor d t u rest xs e q = let r = factor_take d t [] xs u rest e q in record { tree = r.1.tree; spelled = subst (λ (l : List Token). t ∷ u ≡ print_factor r.1.tree l) r.2.spelled r.1.spelled; within = r.1.within }
@@ -115,13 +115,13 @@ expr_take d t more xs u rest e q =
     from_cond (is_sign t.kind) (takes (want.factor d ∷ want.multipliers d ∷ want.addends d ∷ want.some_relation d ∷ more)) _ xs e (λ f g. let s = sign_found t f in let r = parts_split (want.factor d ∷ want.multipliers d ∷ want.addends d ∷ want.some_relation d ∷ []) more u rest (from_takes (want.factor d ∷ want.multipliers d ∷ want.addends d ∷ want.some_relation d ∷ more) xs u rest g q) in (r.0, record { tree = expr_of (simple_of (Some (record { sign = s.0; span = t.span })) (term_of r.1.trees.0 r.1.trees.1.0) r.1.trees.1.1.0) r.1.trees.1.1.1.0; spelled = cons2 s.1 r.1.spelled; within = omega (arith, r.1.within) }, r.2)) (λ f1 e1. let a = factor_take d t (want.multipliers d ∷ want.addends d ∷ want.some_relation d ∷ more) xs u rest e1 q in let r = parts_split (want.multipliers d ∷ want.addends d ∷ want.some_relation d ∷ []) more a.0 rest a.2 in (r.0, record { tree = expr_of (simple_of None (term_of a.1.tree r.1.trees.0) r.1.trees.1.0) r.1.trees.1.1.0; spelled = a.1.spelled ∙ ap (print_factor a.1.tree) r.1.spelled; within = omega (arith, a.1.within, r.1.within) }, r.2))
 
 take_multipliers : (d : ℕ) → Taken (want.multipliers d)
-take_multipliers d t u rest xs e q = from_allows (eqb (rank t.kind) 8) (term_parts d) xs u rest e q (λ f p. let o = mul_found t f in record { tree = more_multipliers o.0 t.span p.trees.0 p.trees.1.0; spelled = cons2 o.1 p.spelled; within = omega (arith, p.within) })
+take_multipliers d t u rest xs e q = from_allows (eqb (reach t.kind) 8) (term_parts d) xs u rest e q (λ f p. let o = mul_found t f in record { tree = more_multipliers o.0 t.span p.trees.0 p.trees.1.0; spelled = cons2 o.1 p.spelled; within = omega (arith, p.within) })
 
 take_addends : (d : ℕ) → Taken (want.addends d)
-take_addends d t u rest xs e q = from_allows (eqb (rank t.kind) 7) (term_parts d ++ want.addends d ∷ []) xs u rest e q (λ f p. let o = add_found t f in record { tree = more_addends o.0 t.span (term_of p.trees.0 p.trees.1.0) p.trees.1.1.0; spelled = cons2 o.1 p.spelled; within = omega (arith, p.within) })
+take_addends d t u rest xs e q = from_allows (eqb (reach t.kind) 7) (term_parts d ++ want.addends d ∷ []) xs u rest e q (λ f p. let o = add_found t f in record { tree = more_addends o.0 t.span (term_of p.trees.0 p.trees.1.0) p.trees.1.1.0; spelled = cons2 o.1 p.spelled; within = omega (arith, p.within) })
 
 take_some_relation : (d : ℕ) → Taken (want.some_relation d)
-take_some_relation d t u rest xs e q = from_allows (eqb (rank t.kind) 6) (simple_parts d) xs u rest e q (λ f p. let o = relator_found t f in record { tree = relation_of o.0 t.span (simple_of p.trees.0 (term_of p.trees.1.0 p.trees.1.1.0) p.trees.1.1.1.0); spelled = cons2 o.1 p.spelled; within = omega (arith, p.within) })
+take_some_relation d t u rest xs e q = from_allows (eqb (reach t.kind) 6) (simple_parts d) xs u rest e q (λ f p. let o = relator_found t f in record { tree = relation_of o.0 t.span (simple_of p.trees.0 (term_of p.trees.1.0 p.trees.1.1.0) p.trees.1.1.1.0); spelled = cons2 o.1 p.spelled; within = omega (arith, p.within) })
 
 take_rest_of_set : (d : ℕ) → Taken (want.rest_of_set d)
 take_rest_of_set d t u rest xs e q =

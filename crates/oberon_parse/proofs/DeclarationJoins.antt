@@ -7,7 +7,7 @@ use Rattle.oberon_tree.specs.Levels.{depth_of_each}
 use Rattle.oberon_parse.specs.declared.stop.Stop.{Stop}
 use Rattle.oberon_parse.specs.Expected.{Expected}
 use Rattle.oberon_parse.specs.Machine.{stops}
-use Rattle.oberon_parse.specs.Reads.{ReadsSome, Stops}
+use Rattle.oberon_parse.specs.Reading.{ReadsSome, StopsAt}
 
 pub mapped_push : {A B : Type 0} (print : B → List Token → List Token) (tree : A → B) (xs : List A) (x : A) (rest : List Token) → print_each print (map tree (xs ++ x ∷ [])) rest ≡ print_each print (map tree xs) (print (tree x) rest)
 mapped_push print tree [] x rest = refl
@@ -21,7 +21,7 @@ mapped_depth depth tree (y ∷ ys) x = omega (arith, mapped_depth depth tree ys 
 pub at_level : (part : ℕ → Expected) (d e : ℕ) → d ≡ suc e → {given : List Token} {print : List Token → List Token} {depth : ℕ} {rest : List Token} → ReadsSome (part (suc e)) (suc e) given print depth rest → ReadsSome (part d) d given print depth rest
 at_level part d e z {given} {print} {depth} {rest} q = subst (λ n. ReadsSome (part n) n given print depth rest) (sym z) q
 
-pub via_level : (part : ℕ → Expected) (d e : ℕ) (mid given : List Token) (x : Stop) → d ≡ suc e → ((s : List Expected) → stops (part d ∷ s) given ≡ stops (part d ∷ s) mid) → Stops (part (suc e) ∷ []) mid x → Stops (part d ∷ []) given x
+pub via_level : (part : ℕ → Expected) (d e : ℕ) (mid given : List Token) (x : Stop) → d ≡ suc e → ((s : List Expected) → stops (part d ∷ s) given ≡ stops (part d ∷ s) mid) → StopsAt (part (suc e) ∷ []) mid x → StopsAt (part d ∷ []) given x
 via_level part d e mid given x z h q =
-    let r : Stops (part d ∷ []) mid x = subst (λ n. Stops (part n ∷ []) mid x) (sym z) q in
+    let r : StopsAt (part d ∷ []) mid x = subst (λ n. StopsAt (part n ∷ []) mid x) (sym z) q in
     record { there = λ n f s. h s ∙ r.there n f s }

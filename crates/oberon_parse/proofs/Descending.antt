@@ -23,9 +23,9 @@ use Rattle.oberon_parse.specs.declared.stop.Stop.{Stop}
 use Rattle.oberon_parse.specs.declared.stop.Stop.TheVariants as stop
 use Rattle.oberon_parse.specs.Expected.{Expected}
 use Rattle.oberon_parse.specs.Expected as want
-use Rattle.oberon_parse.specs.Tests.{is_symbol, is_word, is_ident, is_literal, is_constant, is_sign, rank, next_is, symbol_code, word_code}
+use Rattle.oberon_parse.specs.Tests.{is_symbol, is_word, is_ident, is_literal, is_constant, is_sign, reach, next_is, symbol_code, word_code}
 use Rattle.oberon_parse.specs.Machine.{takes, refuses, move, needs, stops}
-use Rattle.oberon_parse.specs.Reads.{Reads, ReadsSome, Stops}
+use Rattle.oberon_parse.specs.Reading.{ReadsParts, ReadsSome, StopsAt}
 use Rattle.oberon_parse.proofs.Found.{no}
 use Rattle.oberon_parse.proofs.Operators.{relator_found, add_found, mul_found}
 use Rattle.oberon_parse.proofs.Steps.{taken, refused, lack}
@@ -34,18 +34,18 @@ use Rattle.oberon_parse.proofs.ForthStatements.{own_code}
 -- ---- exits
 
 -- the machine stops here
-pub halts : (parts : List Expected) (given : List Token) (m : ℕ) → ((s : List Expected) → stops (parts ++ s) given ≡ Some m) → Stops parts given (stop.Left m)
+pub halts : (parts : List Expected) (given : List Token) (m : ℕ) → ((s : List Expected) → stops (parts ++ s) given ≡ Some m) → StopsAt parts given (stop.Left m)
 halts parts given m f = record { there = λ n e s. let same : m ≡ n = cc in f s ∙ ap Some same }
 
 -- there was no memory
-pub no_memory : (parts : List Expected) (given : List Token) → Stops parts given stop.NoMemory
+pub no_memory : (parts : List Expected) (given : List Token) → StopsAt parts given stop.NoMemory
 no_memory parts given = record { there = λ n e s. absurd cc }
 
-pub by_memory : (parts : List Expected) (given : List Token) (e : Stop) → e ≡ stop.NoMemory → Stops parts given e
-by_memory parts given e h = subst (λ (f : Stop). Stops parts given f) (sym h) (no_memory parts given)
+pub by_memory : (parts : List Expected) (given : List Token) (e : Stop) → e ≡ stop.NoMemory → StopsAt parts given e
+by_memory parts given e h = subst (λ (f : Stop). StopsAt parts given f) (sym h) (no_memory parts given)
 
 -- where an inner part stops, the whole does
-pub via : (inner outer : List Expected) (mid given : List Token) (e : Stop) (more : List Expected → List Expected) → ((s : List Expected) → stops (outer ++ s) given ≡ stops (inner ++ more s) mid) → Stops inner mid e → Stops outer given e
+pub via : (inner outer : List Expected) (mid given : List Token) (e : Stop) (more : List Expected → List Expected) → ((s : List Expected) → stops (outer ++ s) given ≡ stops (inner ++ more s) mid) → StopsAt inner mid e → StopsAt outer given e
 via inner outer mid given e more h q = record { there = λ n f s. h s ∙ q.there n f (more s) }
 
 -- ---- single tokens
@@ -53,11 +53,11 @@ via inner outer mid given e more h q = record { there = λ n f s. h s ∙ q.ther
 pub past_symbol : (w : Symbol) (s : List Expected) (t : Token) (given rest : List Token) → given ≡ t ∷ rest → is_symbol w t.kind ≡ true → stops (want.symbol w ∷ s) given ≡ stops s rest
 past_symbol w s t given rest h e = ap (stops (want.symbol w ∷ s)) h ∙ taken (want.symbol w) [] s t rest (ap (λ b. needs b []) e)
 
-pub after_symbol : (w : Symbol) (s : List Expected) {place : Span} {given rest : List Token} → given ≡ symbol_token w place ∷ rest → stops (want.symbol w ∷ s) given ≡ stops s rest
-after_symbol w s {place} {given} {rest} h = past_symbol w s (symbol_token w place) given rest h (own_code (symbol_code w))
+pub after_symbol : (w : Symbol) (s : List Expected) {span : Span} {given rest : List Token} → given ≡ symbol_token w span ∷ rest → stops (want.symbol w ∷ s) given ≡ stops s rest
+after_symbol w s {span} {given} {rest} h = past_symbol w s (symbol_token w span) given rest h (own_code (symbol_code w))
 
-pub after_word : (w : Word) (s : List Expected) {place : Span} {given rest : List Token} → given ≡ word_token w place ∷ rest → stops (want.word w ∷ s) given ≡ stops s rest
-after_word w s {place} {given} {rest} h = ap (stops (want.word w ∷ s)) h ∙ taken (want.word w) [] s (word_token w place) rest (ap (λ b. needs b []) (own_code (word_code w)))
+pub after_word : (w : Word) (s : List Expected) {span : Span} {given rest : List Token} → given ≡ word_token w span ∷ rest → stops (want.word w ∷ s) given ≡ stops s rest
+after_word w s {span} {given} {rest} h = ap (stops (want.word w ∷ s)) h ∙ taken (want.word w) [] s (word_token w span) rest (ap (λ b. needs b []) (own_code (word_code w)))
 
 pub after_ident : (s : List Expected) {i : Ident} {given rest : List Token} → given ≡ ident_token i ∷ rest → stops (want.ident ∷ s) given ≡ stops s rest
 after_ident s {i} {given} {rest} h = ap (stops (want.ident ∷ s)) h ∙ taken want.ident [] s (ident_token i) rest refl
@@ -70,13 +70,13 @@ entered x xs s t given rest h e = ap (stops (x ∷ s)) h ∙ taken x xs s t rest
 pub refused_at : (x : Expected) (s : List Expected) (t : Token) (given rest : List Token) → given ≡ t ∷ rest → move x t.kind ≡ refuses → stops (x ∷ s) given ≡ Some (length given)
 refused_at x s t given rest h e = ap (stops (x ∷ s)) h ∙ refused x s t rest e ∙ ap (λ (l : List Token). Some (length l)) (sym h)
 
-pub lacks_symbol : (w : Symbol) (given : List Token) → next_is (is_symbol w) given ≡ false → Stops (want.symbol w ∷ []) given (stop.Left (length given))
+pub lacks_symbol : (w : Symbol) (given : List Token) → next_is (is_symbol w) given ≡ false → StopsAt (want.symbol w ∷ []) given (stop.Left (length given))
 lacks_symbol w given h = halts (want.symbol w ∷ []) given (length given) (λ s. lack (want.symbol w) (is_symbol w) [] s given refl (λ k. refl) h)
 
-pub lacks_word : (w : Word) (given : List Token) → next_is (is_word w) given ≡ false → Stops (want.word w ∷ []) given (stop.Left (length given))
+pub lacks_word : (w : Word) (given : List Token) → next_is (is_word w) given ≡ false → StopsAt (want.word w ∷ []) given (stop.Left (length given))
 lacks_word w given h = halts (want.word w ∷ []) given (length given) (λ s. lack (want.word w) (is_word w) [] s given refl (λ k. refl) h)
 
-pub lacks_ident : (given : List Token) → next_is is_ident given ≡ false → Stops (want.ident ∷ []) given (stop.Left (length given))
+pub lacks_ident : (given : List Token) → next_is is_ident given ≡ false → StopsAt (want.ident ∷ []) given (stop.Left (length given))
 lacks_ident given h = halts (want.ident ∷ []) given (length given) (λ s. lack want.ident is_ident [] s given refl (λ k. refl) h)
 
 -- one token is fewer
@@ -110,18 +110,18 @@ no_relator_case t relators.GreaterEqual h e0 e1 e2 e3 e4 e5 e6 e7 = no (sym (ap 
 no_relator_case t relators.In h e0 e1 e2 e3 e4 e5 e6 e7 = no (sym (ap (is_word words.In) h) ∙ e6)
 no_relator_case t relators.Is h e0 e1 e2 e3 e4 e5 e6 e7 = no (sym (ap (is_word words.Is) h) ∙ e7)
 
-pub no_relator : (given : List Token) → next_is (is_symbol symbols.Equal) given ≡ false → next_is (is_symbol symbols.Hash) given ≡ false → next_is (is_symbol symbols.Less) given ≡ false → next_is (is_symbol symbols.LessEqual) given ≡ false → next_is (is_symbol symbols.Greater) given ≡ false → next_is (is_symbol symbols.GreaterEqual) given ≡ false → next_is (is_word words.In) given ≡ false → next_is (is_word words.Is) given ≡ false → next_is (λ k. eqb (rank k) 6) given ≡ false
+pub no_relator : (given : List Token) → next_is (is_symbol symbols.Equal) given ≡ false → next_is (is_symbol symbols.Hash) given ≡ false → next_is (is_symbol symbols.Less) given ≡ false → next_is (is_symbol symbols.LessEqual) given ≡ false → next_is (is_symbol symbols.Greater) given ≡ false → next_is (is_symbol symbols.GreaterEqual) given ≡ false → next_is (is_word words.In) given ≡ false → next_is (is_word words.Is) given ≡ false → next_is (λ k. eqb (reach k) 6) given ≡ false
 no_relator [] e0 e1 e2 e3 e4 e5 e6 e7 = refl
-no_relator (t ∷ ts) e0 e1 e2 e3 e4 e5 e6 e7 = false_by (eqb (rank t.kind) 6) (λ f. let r = relator_found t f in no_relator_case t r.0 (same_kind r.1) e0 e1 e2 e3 e4 e5 e6 e7)
+no_relator (t ∷ ts) e0 e1 e2 e3 e4 e5 e6 e7 = false_by (eqb (reach t.kind) 6) (λ f. let r = relator_found t f in no_relator_case t r.0 (same_kind r.1) e0 e1 e2 e3 e4 e5 e6 e7)
 
 no_add_case : (t : Token) (op : AddOperator) → t.kind ≡ add_kind op → is_symbol symbols.Plus t.kind ≡ false → is_symbol symbols.Minus t.kind ≡ false → is_word words.Or t.kind ≡ false → ⊥
 no_add_case t adds.Add h e0 e1 e2 = no (sym (ap (is_symbol symbols.Plus) h) ∙ e0)
 no_add_case t adds.Subtract h e0 e1 e2 = no (sym (ap (is_symbol symbols.Minus) h) ∙ e1)
 no_add_case t adds.Or h e0 e1 e2 = no (sym (ap (is_word words.Or) h) ∙ e2)
 
-pub no_add : (given : List Token) → next_is (is_symbol symbols.Plus) given ≡ false → next_is (is_symbol symbols.Minus) given ≡ false → next_is (is_word words.Or) given ≡ false → next_is (λ k. eqb (rank k) 7) given ≡ false
+pub no_add : (given : List Token) → next_is (is_symbol symbols.Plus) given ≡ false → next_is (is_symbol symbols.Minus) given ≡ false → next_is (is_word words.Or) given ≡ false → next_is (λ k. eqb (reach k) 7) given ≡ false
 no_add [] e0 e1 e2 = refl
-no_add (t ∷ ts) e0 e1 e2 = false_by (eqb (rank t.kind) 7) (λ f. let r = add_found t f in no_add_case t r.0 (same_kind r.1) e0 e1 e2)
+no_add (t ∷ ts) e0 e1 e2 = false_by (eqb (reach t.kind) 7) (λ f. let r = add_found t f in no_add_case t r.0 (same_kind r.1) e0 e1 e2)
 
 no_mul_case : (t : Token) (op : MulOperator) → t.kind ≡ mul_kind op → is_symbol symbols.Star t.kind ≡ false → is_symbol symbols.Slash t.kind ≡ false → is_word words.Div t.kind ≡ false → is_word words.Mod t.kind ≡ false → is_symbol symbols.Ampersand t.kind ≡ false → ⊥
 no_mul_case t muls.Multiply h e0 e1 e2 e3 e4 = no (sym (ap (is_symbol symbols.Star) h) ∙ e0)
@@ -130,9 +130,9 @@ no_mul_case t muls.Div h e0 e1 e2 e3 e4 = no (sym (ap (is_word words.Div) h) ∙
 no_mul_case t muls.Mod h e0 e1 e2 e3 e4 = no (sym (ap (is_word words.Mod) h) ∙ e3)
 no_mul_case t muls.And h e0 e1 e2 e3 e4 = no (sym (ap (is_symbol symbols.Ampersand) h) ∙ e4)
 
-pub no_mul : (given : List Token) → next_is (is_symbol symbols.Star) given ≡ false → next_is (is_symbol symbols.Slash) given ≡ false → next_is (is_word words.Div) given ≡ false → next_is (is_word words.Mod) given ≡ false → next_is (is_symbol symbols.Ampersand) given ≡ false → next_is (λ k. eqb (rank k) 8) given ≡ false
+pub no_mul : (given : List Token) → next_is (is_symbol symbols.Star) given ≡ false → next_is (is_symbol symbols.Slash) given ≡ false → next_is (is_word words.Div) given ≡ false → next_is (is_word words.Mod) given ≡ false → next_is (is_symbol symbols.Ampersand) given ≡ false → next_is (λ k. eqb (reach k) 8) given ≡ false
 no_mul [] e0 e1 e2 e3 e4 = refl
-no_mul (t ∷ ts) e0 e1 e2 e3 e4 = false_by (eqb (rank t.kind) 8) (λ f. let r = mul_found t f in no_mul_case t r.0 (same_kind r.1) e0 e1 e2 e3 e4)
+no_mul (t ∷ ts) e0 e1 e2 e3 e4 = false_by (eqb (reach t.kind) 8) (λ f. let r = mul_found t f in no_mul_case t r.0 (same_kind r.1) e0 e1 e2 e3 e4)
 
 -- ---- what an answer joins
 
@@ -144,7 +144,7 @@ pub onto : {t : Token} {given rest all : List Token} → given ≡ t ∷ rest �
 onto {t} {given} {rest} {all} h e = h ∙ ap (λ (l : List Token). t ∷ l) e
 
 -- a part that was read, and what follows it
-pub behind : {parts : List Expected} {limit : ℕ} {given : List Token} {print : List Token → List Token} {depth : ℕ} {rest all : List Token} → Reads parts limit given print depth rest → rest ≡ all → given ≡ print all
+pub behind : {parts : List Expected} {limit : ℕ} {given : List Token} {print : List Token → List Token} {depth : ℕ} {rest all : List Token} → ReadsParts parts limit given print depth rest → rest ≡ all → given ≡ print all
 behind {parts} {limit} {given} {print} {depth} {rest} {all} r e = r.spelled ∙ ap print e
 
 -- items that were read, and what follows them

@@ -15,7 +15,7 @@ use Rattle.oberon_parse.specs.Expected.{Expected}
 use Rattle.oberon_parse.specs.Expected as want
 use Rattle.oberon_parse.specs.Tests.{is_word, is_symbol, is_ident, is_literal, is_sign, is_constant}
 use Rattle.oberon_parse.specs.Machine.{Move, takes, passes, refuses, needs, deeper, begins_factor, begins_expr, move, may_miss, feed, may_end, stops, module_parts, expr_parts, exprs_parts, section_tail}
-use Rattle.oberon_parse.specs.Sentence.{IsSentence, Begins, IsFirstBad}
+use Rattle.oberon_parse.specs.Sentence.{IsSentence, IsFront, IsFirstBad, most_levels}
 use Rattle.oberon_parse.proofs.Found.{no}
 use Rattle.oberon_parse.proofs.Parts.{Shape, spell, deep, limit, Part, Parts, parts_split, parts_join}
 use Rattle.oberon_parse.proofs.Back.{part_taken}
@@ -23,36 +23,36 @@ use Rattle.oberon_parse.proofs.ForthModules.{over_module}
 
 -- ---- the shortest tree of each part
 
-place : Span
-place = record { start = 0; end = 0 }
+span : Span
+span = record { start = 0; end = 0 }
 
 a_name : Ident
-a_name = record { span = place; name = 65 ∷ [] }
+a_name = record { span = span; name = 65 ∷ [] }
 
 shortest : (x : Expected) → Shape x
 shortest want.ident = a_name
-shortest (want.word w) = place
-shortest (want.symbol w) = place
+shortest (want.word w) = span
+shortest (want.symbol w) = span
 shortest want.some_member = None
 shortest want.some_mark = None
 shortest want.ident_defs = []
 shortest want.idents = []
 shortest want.some_sign = None
-shortest (want.factor d) = integer_factor (record { span = place; value = pos 0 })
+shortest (want.factor d) = integer_factor (record { span = span; value = pos 0 })
 shortest (want.multipliers d) = no_multipliers
 shortest (want.addends d) = no_addends
 shortest (want.some_relation d) = no_relation
-shortest (want.rest_of_set d) = (no_elements, place)
+shortest (want.rest_of_set d) = (no_elements, span)
 shortest (want.some_upper d) = no_upper
 shortest (want.elements d) = no_more_elements
 shortest (want.selectors d) = no_selectors
-shortest (want.rest_of_call d) = (no_arguments, place)
+shortest (want.rest_of_call d) = (no_arguments, span)
 shortest (want.exprs d) = no_more_exprs
 shortest (want.type_part d) = named_type (record { first = a_name; member = None })
 shortest want.some_base = None
-shortest (want.rest_of_record d) = (no_fields, place)
+shortest (want.rest_of_record d) = (no_fields, span)
 shortest (want.fields d) = no_more_fields
-shortest want.value = values.Integer (record { span = place; value = pos 0 })
+shortest want.value = values.Integer (record { span = span; value = pos 0 })
 shortest want.some_label_upper = None
 shortest want.labels = []
 shortest (want.statement d) = empty_statement
@@ -76,7 +76,7 @@ shortest (want.local_variables d) = []
 shortest want.some_by_var = None
 shortest (want.opens d) = []
 shortest (want.sections d) = []
-shortest (want.rest_of_formals d) = (None, place)
+shortest (want.rest_of_formals d) = (None, span)
 shortest (want.some_formals d) = None
 shortest want.some_result = None
 shortest (want.some_body d) = None
@@ -387,7 +387,7 @@ front_comes s (suc j) (t ∷ ts) rest z c h =
     let r = front_comes c.0 j ts rest z c.2 (omega arith) in
     (r.0, (c.0, c.1, r.1))
 
-comes_begins : (limit : ℕ) (front : List Token) (z : List Expected) → Comes (module_parts limit) front z → Begins limit front
+comes_begins : (limit : ℕ) (front : List Token) (z : List Expected) → Comes (module_parts limit) front z → IsFront limit front
 comes_begins limit front z c = let r = some_parts z in (r.0, parts_sentence limit (front ++ r.0) (comes_back (module_parts limit) front z r.0 c r.1))
 
 none_some : {A : Type 0} (n : ℕ) → None ≡ Some n → A
@@ -404,7 +404,7 @@ take_front [] t u = refl
 take_front (x ∷ front) t u = ap (λ l. x ∷ l) (take_front front t u)
 
 -- with the token that it is stuck at no sentence begins
-stuck_bad : (limit : ℕ) (front : List Token) (z : List Expected) (t : Token) (u : List Token) → Comes (module_parts limit) front z → feed z t.kind ≡ None → ¬ Begins limit (take (suc (length front)) (front ++ t ∷ u))
+stuck_bad : (limit : ℕ) (front : List Token) (z : List Expected) (t : Token) (u : List Token) → Comes (module_parts limit) front z → feed z t.kind ≡ None → ¬ IsFront limit (take (suc (length front)) (front ++ t ∷ u))
 stuck_bad limit front z t u c e b =
     let again : (front ++ t ∷ []) ++ b.0 ≡ front ++ t ∷ b.0 = append_assoc front (t ∷ []) b.0 in
     let read : stops (module_parts limit) (take (suc (length front)) (front ++ t ∷ u) ++ b.0) ≡ None = sentence_taken limit (take (suc (length front)) (front ++ t ∷ u) ++ b.0) b.1 in
@@ -421,8 +421,8 @@ first_bad limit ts left k e f =
     let h = halt (module_parts limit) ts left e in
     let same : k ≡ length h.front = omega (arith, length-append h.front h.rest, ap length h.whole, h.count) in
     record {
-      before = λ j l. let r = front_comes (module_parts limit) j h.front h.rest h.stack h.comes (omega arith) in subst (λ (x : List Token). Begins limit (take j x)) (sym h.whole) (comes_begins limit (take j (h.front ++ h.rest)) r.0 r.1);
-      bad = elim h.stuck [ inl g ↦ inr (omega (arith, length-append h.front h.rest, ap length h.whole, ap length g), λ s. none_some left (sym (sentence_taken limit ts s) ∙ e)) | inr g ↦ inl (omega (arith, length-append h.front h.rest, ap length h.whole, ap length g.2), λ b. stuck_bad limit h.front h.stack g.0 g.1 h.comes g.3 (subst (λ (x : List Token). Begins limit (take (suc (length h.front)) x)) (h.whole ∙ ap (λ (l : List Token). h.front ++ l) g.2) (subst (λ (n : ℕ). Begins limit (take (suc n) ts)) same b))) ];
+      before = λ j l. let r = front_comes (module_parts limit) j h.front h.rest h.stack h.comes (omega arith) in subst (λ (x : List Token). IsFront limit (take j x)) (sym h.whole) (comes_begins limit (take j (h.front ++ h.rest)) r.0 r.1);
+      bad = elim h.stuck [ inl g ↦ inr (omega (arith, length-append h.front h.rest, ap length h.whole, ap length g), λ s. none_some left (sym (sentence_taken limit ts s) ∙ e)) | inr g ↦ inl (omega (arith, length-append h.front h.rest, ap length h.whole, ap length g.2), λ b. stuck_bad limit h.front h.stack g.0 g.1 h.comes g.3 (subst (λ (x : List Token). IsFront limit (take (suc (length h.front)) x)) (h.whole ∙ ap (λ (l : List Token). h.front ++ l) g.2) (subst (λ (n : ℕ). IsFront limit (take (suc n) ts)) same b))) ];
     }
 
 -- where nothing is expected any more, the machine stops before what is left
@@ -431,8 +431,8 @@ unfolding stops feed
 nothing_more [] h = absurd cc
 nothing_more (t ∷ ts) h = refl
 
--- the place of a machine that stops
-pub first_bad_at : (ts : List Token) (left m k : ℕ) → stops (module_parts 64) ts ≡ Some left → left ≡ m → refusals.FirstBad (length ts - m) ≡ refusals.FirstBad k → IsFirstBad 64 ts k
+-- the index at which a machine stops
+pub first_bad_at : (ts : List Token) (left m k : ℕ) → stops (module_parts most_levels) ts ≡ Some left → left ≡ m → refusals.FirstBad (length ts - m) ≡ refusals.FirstBad k → IsFirstBad most_levels ts k
 first_bad_at ts left m k e same f =
-    let place : length ts - m ≡ k = cc in
-    first_bad 64 ts left k e (omega (arith, left_within (module_parts 64) ts left e, same, place))
+    let index : length ts - m ≡ k = cc in
+    first_bad most_levels ts left k e (omega (arith, left_within (module_parts most_levels) ts left e, same, index))

@@ -16,7 +16,8 @@ use Rattle.oberon_tree.specs.Print.{print_each, print_some, print_mark, print_ne
 use Rattle.oberon_tree.specs.Levels.{depth_of_each, depth_of_some, depth_of_constant, depth_of_constants, depth_of_type_declaration, depth_of_types, depth_of_variable, depth_of_variables, depth_of_declarations, depth_of_local_constant, depth_of_local_constants, depth_of_local_variable, depth_of_local_variables, depth_of_section, depth_of_next_section, depth_of_sections, depth_of_formals, depth_of_body, depth_of_return, depth_of_procedure, depth_of_procedure_item, depth_of_module}
 use Rattle.oberon_parse.specs.Expected.{Expected}
 use Rattle.oberon_parse.specs.Expected as want
-use Rattle.oberon_parse.specs.Tests.{is_symbol, is_word, is_ident, next_is, next_rank, next_stage}
+use Rattle.oberon_parse.specs.Tests.{is_symbol, is_word, is_ident, next_is}
+use Rattle.oberon_parse.proofs.Follows.{next_reach, next_stage}
 use Rattle.oberon_parse.specs.Machine.{expr_parts, statements_parts, qualident_parts, section_parts, section_tail, formal_type_parts, procedure_parts, import_parts, declarations_parts, module_parts, feed, stops}
 use Rattle.oberon_parse.proofs.Found.{past_word, past_ident}
 use Rattle.oberon_parse.proofs.Steps.{skip, skip_opens, skip_procedures}
@@ -111,7 +112,7 @@ over_opens (x ∷ xs) (suc d) s rest h q = over_opens xs d s rest (omega arith) 
 by_var_past : (o : Option Span) (i : Ident) (s : List Expected) (ts : List Token) → stops (want.some_by_var ∷ s) (print_some print_by_var o (ident_token i ∷ ts)) ≡ stops s (ident_token i ∷ ts)
 unfolding stops feed
 by_var_past None i s ts = refl
-by_var_past (Some place) i s ts = refl
+by_var_past (Some span) i s ts = refl
 
 over_section_tail : (x : SectionTree) (d : ℕ) (s : List Expected) (rest : List Token) → depth_of_section x ≤ d → next_is (is_symbol symbols.Period) rest ≡ false → stops (section_tail d ++ s) (print_each print_next_ident x.names.rest (symbol_token symbols.Colon x.colon ∷ print_formal_type x.of_type rest)) ≡ stops s rest
 unfolding stops feed
@@ -131,7 +132,7 @@ over_sections (x ∷ xs) d s rest h p q =
 formals_first : (o : Option Span) (i : Ident) (d : ℕ) (s : List Expected) (ts : List Token) → stops (want.rest_of_formals d ∷ s) (print_some print_by_var o (ident_token i ∷ ts)) ≡ stops (section_tail d ++ want.sections d ∷ want.symbol symbols.CloseParen ∷ s) ts
 unfolding stops feed
 formals_first None i d s ts = refl
-formals_first (Some place) i d s ts = refl
+formals_first (Some span) i d s ts = refl
 
 over_some_sections : (o : Option SectionsTree) (d : ℕ) (b : Span) (s : List Expected) (rest : List Token) → depth_of_some depth_of_sections o ≤ d → stops (want.rest_of_formals d ∷ s) (print_some print_sections o (symbol_token symbols.CloseParen b ∷ rest)) ≡ stops s rest
 unfolding stops feed
@@ -155,7 +156,7 @@ formals_no_star (Some x) semicolon rest = refl
 
 -- ---- procedures
 
-pub over_some_body : (o : Option BodyTree) (d : ℕ) (s : List Expected) (rest : List Token) → depth_of_some depth_of_body o ≤ d → next_stage rest < 2 → next_rank rest < 1 → stops (want.some_body d ∷ s) (print_some print_body o rest) ≡ stops s rest
+pub over_some_body : (o : Option BodyTree) (d : ℕ) (s : List Expected) (rest : List Token) → depth_of_some depth_of_body o ≤ d → next_stage rest < 2 → next_reach rest < 1 → stops (want.some_body d ∷ s) (print_some print_body o rest) ≡ stops s rest
 unfolding stops feed
 over_some_body None d s rest h q r = skip (want.some_body d) (is_word words.Begin) (statements_parts d) s rest refl (λ k. refl) (past_word words.Begin rest q)
 over_some_body (Some x) d s rest h q r = over_statements x.statements d s rest h r
@@ -169,7 +170,7 @@ return_stage : (o : Option ReturnTree) (last : Span) (rest : List Token) → nex
 return_stage None last rest = omega arith
 return_stage (Some x) last rest = omega arith
 
-return_rank : (o : Option ReturnTree) (last : Span) (rest : List Token) → next_rank (print_some print_return o (word_token words.End last ∷ rest)) < 1
+return_rank : (o : Option ReturnTree) (last : Span) (rest : List Token) → next_reach (print_some print_return o (word_token words.End last ∷ rest)) < 1
 return_rank None last rest = omega arith
 return_rank (Some x) last rest = omega arith
 

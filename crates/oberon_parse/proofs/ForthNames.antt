@@ -12,7 +12,8 @@ use Rattle.oberon_tree.specs.Trees.{IdentDefsTree}
 use Rattle.oberon_tree.specs.Print.{print_each, print_some, print_member, print_qualident, print_mark, print_next_ident_def, print_ident_defs, print_next_ident}
 use Rattle.oberon_parse.specs.Expected.{Expected}
 use Rattle.oberon_parse.specs.Expected as want
-use Rattle.oberon_parse.specs.Tests.{is_symbol, next_is, next_rank}
+use Rattle.oberon_parse.specs.Tests.{is_symbol, next_is}
+use Rattle.oberon_parse.proofs.Follows.{next_reach}
 use Rattle.oberon_parse.specs.Machine.{qualident_parts, ident_defs_parts, idents_parts, feed, stops}
 use Rattle.oberon_parse.proofs.Found.{no_symbol}
 use Rattle.oberon_parse.proofs.Steps.{skip}
@@ -31,20 +32,20 @@ unfolding stops feed
 over_mark None s rest q = skip want.some_mark (is_symbol symbols.Star) [] s rest refl (λ k. refl) q
 over_mark (Some m) s rest q = refl
 
-pub ident_defs_no_star : (xs : List NextIdentDef) (rest : List Token) → next_rank rest < 4 → next_is (is_symbol symbols.Star) (print_each print_next_ident_def xs rest) ≡ false
+pub ident_defs_no_star : (xs : List NextIdentDef) (rest : List Token) → next_reach rest < 4 → next_is (is_symbol symbols.Star) (print_each print_next_ident_def xs rest) ≡ false
 ident_defs_no_star [] rest h = no_symbol symbols.Star rest (omega arith)
 ident_defs_no_star (x ∷ xs) rest h = refl
 
-pub over_more_ident_defs : (xs : List NextIdentDef) (s : List Expected) (rest : List Token) → next_rank rest < 4 → stops (want.ident_defs ∷ s) (print_each print_next_ident_def xs rest) ≡ stops s rest
+pub over_more_ident_defs : (xs : List NextIdentDef) (s : List Expected) (rest : List Token) → next_reach rest < 4 → stops (want.ident_defs ∷ s) (print_each print_next_ident_def xs rest) ≡ stops s rest
 unfolding stops feed
 over_more_ident_defs [] s rest h = skip want.ident_defs (is_symbol symbols.Comma) ident_defs_parts s rest refl (λ k. refl) (no_symbol symbols.Comma rest h)
 over_more_ident_defs (x ∷ xs) s rest h = over_mark x.ident.export (want.ident_defs ∷ s) (print_each print_next_ident_def xs rest) (ident_defs_no_star xs rest h) ∙ over_more_ident_defs xs s rest h
 
-pub over_ident_defs : (ds : IdentDefsTree) (s : List Expected) (rest : List Token) → next_rank rest < 4 → stops (ident_defs_parts ++ s) (print_ident_defs ds rest) ≡ stops s rest
+pub over_ident_defs : (ds : IdentDefsTree) (s : List Expected) (rest : List Token) → next_reach rest < 4 → stops (ident_defs_parts ++ s) (print_ident_defs ds rest) ≡ stops s rest
 unfolding stops feed
 over_ident_defs ds s rest h = over_mark ds.first.export (want.ident_defs ∷ s) (print_each print_next_ident_def ds.rest rest) (ident_defs_no_star ds.rest rest h) ∙ over_more_ident_defs ds.rest s rest h
 
-pub over_more_idents : (xs : List NextIdent) (s : List Expected) (rest : List Token) → next_rank rest < 4 → stops (want.idents ∷ s) (print_each print_next_ident xs rest) ≡ stops s rest
+pub over_more_idents : (xs : List NextIdent) (s : List Expected) (rest : List Token) → next_reach rest < 4 → stops (want.idents ∷ s) (print_each print_next_ident xs rest) ≡ stops s rest
 unfolding stops feed
 over_more_idents [] s rest h = skip want.idents (is_symbol symbols.Comma) idents_parts s rest refl (λ k. refl) (no_symbol symbols.Comma rest h)
 over_more_idents (x ∷ xs) s rest h = over_more_idents xs s rest h

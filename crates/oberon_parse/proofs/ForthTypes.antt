@@ -12,7 +12,8 @@ use Rattle.oberon_tree.specs.Print.{print_some, print_base, print_type, print_re
 use Rattle.oberon_tree.specs.Levels.{depth_of_type, depth_of_record, depth_of_field_lists, depth_of_more_fields}
 use Rattle.oberon_parse.specs.Expected.{Expected}
 use Rattle.oberon_parse.specs.Expected as want
-use Rattle.oberon_parse.specs.Tests.{is_symbol, next_is, next_rank}
+use Rattle.oberon_parse.specs.Tests.{is_symbol, next_is}
+use Rattle.oberon_parse.proofs.Follows.{next_reach}
 use Rattle.oberon_parse.specs.Machine.{qualident_parts, fields_parts, feed, stops}
 use Rattle.oberon_parse.proofs.Found.{no_symbol}
 use Rattle.oberon_parse.proofs.Steps.{skip}
@@ -24,7 +25,7 @@ unfolding stops feed
 over_base None s rest q = skip want.some_base (is_symbol symbols.OpenParen) (qualident_parts ++ want.symbol symbols.CloseParen ∷ []) s rest refl (λ k. refl) q
 over_base (Some b) s rest q = over_member b.name.member (want.symbol symbols.CloseParen ∷ s) (symbol_token symbols.CloseParen b.closing ∷ rest) refl
 
-more_fields_next : (x : MoreFieldsTree) (rest : List Token) → next_rank rest < 1 → next_rank (print_more_fields x rest) < 9
+more_fields_next : (x : MoreFieldsTree) (rest : List Token) → next_reach rest < 1 → next_reach (print_more_fields x rest) < 9
 more_fields_next no_more_fields rest h = omega arith
 more_fields_next (more_fields semicolon fs more) rest h = omega arith
 
@@ -35,7 +36,7 @@ fields_no_paren (some_fields (fields_of names colon t) more) last rest = refl
 mutual
   unfolding stops feed
 
-  pub over_type : (x : TypeTree) (d : ℕ) (s : List Expected) (rest : List Token) → depth_of_type x ≤ d → next_rank rest < 9 → stops (want.type_part d ∷ s) (print_type x rest) ≡ stops s rest
+  pub over_type : (x : TypeTree) (d : ℕ) (s : List Expected) (rest : List Token) → depth_of_type x ≤ d → next_reach rest < 9 → stops (want.type_part d ∷ s) (print_type x rest) ≡ stops s rest
   over_type (named_type q) d s rest h r = over_member q.member s rest (no_symbol symbols.Period rest r)
   over_type (array_type word es of_word t) zero s rest h r = absurd (omega arith)
   over_type (array_type word es of_word t) (suc d) s rest h r = over_exprs es d (want.word words.Of ∷ want.type_part d ∷ s) (word_token words.Of of_word ∷ print_type t rest) (omega arith) (omega arith) ∙ over_type t d s rest (omega arith) r
@@ -50,7 +51,7 @@ mutual
   over_field_lists (some_fields (fields_of names colon t) more) d last s rest h =
       over_ident_defs names (want.symbol symbols.Colon ∷ want.type_part d ∷ want.fields d ∷ want.word words.End ∷ s) (symbol_token symbols.Colon colon ∷ print_type t (print_more_fields more (word_token words.End last ∷ rest))) (omega arith) ∙ over_type t d (want.fields d ∷ want.word words.End ∷ s) (print_more_fields more (word_token words.End last ∷ rest)) (omega arith) (more_fields_next more (word_token words.End last ∷ rest) (omega arith)) ∙ over_more_fields more d (want.word words.End ∷ s) (word_token words.End last ∷ rest) (omega arith) (omega arith)
 
-  pub over_more_fields : (x : MoreFieldsTree) (d : ℕ) (s : List Expected) (rest : List Token) → depth_of_more_fields x ≤ d → next_rank rest < 1 → stops (want.fields d ∷ s) (print_more_fields x rest) ≡ stops s rest
+  pub over_more_fields : (x : MoreFieldsTree) (d : ℕ) (s : List Expected) (rest : List Token) → depth_of_more_fields x ≤ d → next_reach rest < 1 → stops (want.fields d ∷ s) (print_more_fields x rest) ≡ stops s rest
   over_more_fields no_more_fields d s rest h r = skip (want.fields d) (is_symbol symbols.Semicolon) (fields_parts d ++ want.fields d ∷ []) s rest refl (λ k. refl) (no_symbol symbols.Semicolon rest r)
   over_more_fields (more_fields semicolon (fields_of names colon t) more) d s rest h r =
       over_ident_defs names (want.symbol symbols.Colon ∷ want.type_part d ∷ want.fields d ∷ s) (symbol_token symbols.Colon colon ∷ print_type t (print_more_fields more rest)) (omega arith) ∙ over_type t d (want.fields d ∷ s) (print_more_fields more rest) (omega arith) (more_fields_next more rest r) ∙ over_more_fields more d s rest (omega arith) r

@@ -1,5 +1,5 @@
 -- What the tests on tokens tell: a token of which a test holds is that token, and a test fails where the
--- token's rank or stage is too low.
+-- token's reach or stage is too low.
 use Rattle.std.specs.Prelude.{◌≡◌, ℕ, ◌<◌, Bool, true, false, cond, eqb, List, [], ◌∷◌, refl}
 use Rattle.std.proofs.Common.{sym, ◌∙◌, ap, inl, inr, arith}
 use Rattle.std.proofs.lemmas.Bool.{ne_eqb}
@@ -12,7 +12,8 @@ use Rattle.oberon_scan.specs.declared.token.Word.TheVariants as words
 use Rattle.oberon_scan.specs.declared.token.Symbol.{Symbol}
 use Rattle.oberon_scan.specs.declared.token.Symbol.TheVariants as symbols
 use Rattle.oberon_tree.specs.Tokens.{symbol_token, word_token}
-use Rattle.oberon_parse.specs.Tests.{word_code, symbol_code, is_word, is_symbol, is_ident, word_rank, symbol_rank, rank, word_stage, stage, next_is, next_rank, next_stage}
+use Rattle.oberon_parse.specs.Tests.{word_code, symbol_code, is_word, is_symbol, is_ident, word_reach, symbol_reach, reach, next_is}
+use Rattle.oberon_parse.proofs.Follows.{word_stage, stage, next_reach, next_stage}
 
 pub no : {A : Type 0} → true ≡ false → A
 no e = absurd cc
@@ -120,20 +121,20 @@ word_found w t e = λ i. record { span = t.span; kind = word_kind w t.kind e i }
 pub symbol_found : (s : Symbol) (t : Token) → is_symbol s t.kind ≡ true → t ≡ symbol_token s t.span
 symbol_found s t e = λ i. record { span = t.span; kind = symbol_kind s t.kind e i }
 
--- ---- tests that fail by the rank
+-- ---- tests that fail by the reach
 
-symbol_low : (s : Symbol) (k : TokenKind) → rank k < symbol_rank s → is_symbol s k ≡ false
+symbol_low : (s : Symbol) (k : TokenKind) → reach k < symbol_reach s → is_symbol s k ≡ false
 symbol_low s (kinds.Ident x) h = refl
 symbol_low s (kinds.Integer x) h = refl
 symbol_low s (kinds.Str x) h = refl
 symbol_low s (kinds.Word x) h = refl
-symbol_low s (kinds.Symbol x) h = ne_eqb (symbol_code s) (symbol_code x) (λ e. let same : symbol_rank s ≡ symbol_rank x = ap symbol_rank (sym (symbol_at-code s) ∙ ap symbol_at e ∙ symbol_at-code x) in omega arith)
+symbol_low s (kinds.Symbol x) h = ne_eqb (symbol_code s) (symbol_code x) (λ e. let same : symbol_reach s ≡ symbol_reach x = ap symbol_reach (sym (symbol_at-code s) ∙ ap symbol_at e ∙ symbol_at-code x) in omega arith)
 
-word_low : (w : Word) (k : TokenKind) → rank k < word_rank w → is_word w k ≡ false
+word_low : (w : Word) (k : TokenKind) → reach k < word_reach w → is_word w k ≡ false
 word_low w (kinds.Ident x) h = refl
 word_low w (kinds.Integer x) h = refl
 word_low w (kinds.Str x) h = refl
-word_low w (kinds.Word x) h = ne_eqb (word_code w) (word_code x) (λ e. let same : word_rank w ≡ word_rank x = ap word_rank (sym (word_at-code w) ∙ ap word_at e ∙ word_at-code x) in omega arith)
+word_low w (kinds.Word x) h = ne_eqb (word_code w) (word_code x) (λ e. let same : word_reach w ≡ word_reach x = ap word_reach (sym (word_at-code w) ∙ ap word_at e ∙ word_at-code x) in omega arith)
 word_low w (kinds.Symbol x) h = refl
 
 word_late : (w : Word) (k : TokenKind) → stage k < word_stage w → is_word w k ≡ false
@@ -143,7 +144,7 @@ word_late w (kinds.Str x) h = refl
 word_late w (kinds.Word x) h = ne_eqb (word_code w) (word_code x) (λ e. let same : word_stage w ≡ word_stage x = ap word_stage (sym (word_at-code w) ∙ ap word_at e ∙ word_at-code x) in omega arith)
 word_late w (kinds.Symbol x) h = refl
 
-ident_low : (k : TokenKind) → rank k < 2 → is_ident k ≡ false
+ident_low : (k : TokenKind) → reach k < 2 → is_ident k ≡ false
 ident_low (kinds.Ident x) h = absurd (omega arith)
 ident_low (kinds.Integer x) h = refl
 ident_low (kinds.Str x) h = refl
@@ -157,15 +158,15 @@ ident_late (kinds.Str x) h = refl
 ident_late (kinds.Word x) h = refl
 ident_late (kinds.Symbol x) h = refl
 
-pub no_symbol : (s : Symbol) (ts : List Token) → next_rank ts < symbol_rank s → next_is (is_symbol s) ts ≡ false
+pub no_symbol : (s : Symbol) (ts : List Token) → next_reach ts < symbol_reach s → next_is (is_symbol s) ts ≡ false
 no_symbol s [] h = refl
 no_symbol s (t ∷ ts) h = symbol_low s t.kind h
 
-pub no_word : (w : Word) (ts : List Token) → next_rank ts < word_rank w → next_is (is_word w) ts ≡ false
+pub no_word : (w : Word) (ts : List Token) → next_reach ts < word_reach w → next_is (is_word w) ts ≡ false
 no_word w [] h = refl
 no_word w (t ∷ ts) h = word_low w t.kind h
 
-pub no_ident : (ts : List Token) → next_rank ts < 2 → next_is is_ident ts ≡ false
+pub no_ident : (ts : List Token) → next_reach ts < 2 → next_is is_ident ts ≡ false
 no_ident [] h = refl
 no_ident (t ∷ ts) h = ident_low t.kind h
 
@@ -177,6 +178,6 @@ pub past_ident : (ts : List Token) → next_stage ts < 7 → next_is is_ident ts
 past_ident [] h = refl
 past_ident (t ∷ ts) h = ident_late t.kind h
 
-pub no_rank : (n : ℕ) (ts : List Token) → next_rank ts < n → next_is (λ k. eqb (rank k) n) ts ≡ false
+pub no_rank : (n : ℕ) (ts : List Token) → next_reach ts < n → next_is (λ k. eqb (reach k) n) ts ≡ false
 no_rank n [] h = refl
-no_rank n (t ∷ ts) h = ne_eqb (rank t.kind) n (λ e. omega arith)
+no_rank n (t ∷ ts) h = ne_eqb (reach t.kind) n (λ e. omega arith)

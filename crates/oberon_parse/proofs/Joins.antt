@@ -24,25 +24,25 @@ use Rattle.oberon_tree.specs.Trees.{no_addends, no_more_elements, no_more_exprs}
 use Rattle.oberon_tree.specs.Print.{print_designator, print_term, print_addends, print_factor, print_multipliers, print_element, print_more_elements, print_selector, print_selectors, print_expr, print_more_exprs, print_fields, print_more_fields}
 use Rattle.oberon_tree.specs.Levels.{depth_of_designator, depth_of_term, depth_of_addends, depth_of_factor, depth_of_multipliers, depth_of_element, depth_of_more_elements, depth_of_selector, depth_of_selectors, depth_of_expr, depth_of_more_exprs, depth_of_fields, depth_of_more_fields}
 use Rattle.oberon_tree.specs.Memory.{addends_list, multipliers_list, more_elements_list, selectors_list, selector_tree, designator_tree, more_exprs_list, term_tree, factor_tree, element_tree, expr_tree, more_fields_list, fields_tree}
-use Rattle.oberon_tree.proofs.ExpressionMemory.{addend_made, addend_out, next_element_made, next_element_out, next_expr_made, next_expr_out, place_held}
+use Rattle.oberon_tree.proofs.ExpressionMemory.{addend_made, addend_out, next_element_made, next_element_out, next_expr_made, next_expr_out, designator_held}
 use Rattle.oberon_parse.specs.Expected.{Expected}
 use Rattle.oberon_parse.specs.Expected as want
 use Rattle.oberon_parse.specs.Tests.{is_symbol, is_word, is_ident, is_constant, next_is}
 use Rattle.oberon_parse.specs.Machine.{refuses, move, simple_parts, term_parts, stops}
-use Rattle.oberon_parse.specs.Reads.{Reads, Single}
+use Rattle.oberon_parse.specs.Reading.{ReadsParts, Single}
 use Rattle.oberon_parse.proofs.Steps.{taken, refused, lacked}
 use Rattle.oberon_parse.proofs.ForthExpressions.{take_relator, take_add, take_mul}
 
 -- ---- operators
 
-pub entered_relator : (op : Relator) (place : Span) (d : ℕ) (s : List Expected) {given rest : List Token} → given ≡ relator_token op place ∷ rest → stops (want.some_relation d ∷ s) given ≡ stops (simple_parts d ++ s) rest
-entered_relator op place d s {given} {rest} h = ap (stops (want.some_relation d ∷ s)) h ∙ take_relator op place d s rest
+pub entered_relator : (op : Relator) (span : Span) (d : ℕ) (s : List Expected) {given rest : List Token} → given ≡ relator_token op span ∷ rest → stops (want.some_relation d ∷ s) given ≡ stops (simple_parts d ++ s) rest
+entered_relator op span d s {given} {rest} h = ap (stops (want.some_relation d ∷ s)) h ∙ take_relator op span d s rest
 
-pub entered_add : (op : AddOperator) (place : Span) (d : ℕ) (s : List Expected) {given rest : List Token} → given ≡ add_token op place ∷ rest → stops (want.addends d ∷ s) given ≡ stops (term_parts d ++ want.addends d ∷ s) rest
-entered_add op place d s {given} {rest} h = ap (stops (want.addends d ∷ s)) h ∙ take_add op place d s rest
+pub entered_add : (op : AddOperator) (span : Span) (d : ℕ) (s : List Expected) {given rest : List Token} → given ≡ add_token op span ∷ rest → stops (want.addends d ∷ s) given ≡ stops (term_parts d ++ want.addends d ∷ s) rest
+entered_add op span d s {given} {rest} h = ap (stops (want.addends d ∷ s)) h ∙ take_add op span d s rest
 
-pub entered_mul : (op : MulOperator) (place : Span) (d : ℕ) (s : List Expected) {given rest : List Token} → given ≡ mul_token op place ∷ rest → stops (want.multipliers d ∷ s) given ≡ stops (term_parts d ++ s) rest
-entered_mul op place d s {given} {rest} h = ap (stops (want.multipliers d ∷ s)) h ∙ take_mul op place d s rest
+pub entered_mul : (op : MulOperator) (span : Span) (d : ℕ) (s : List Expected) {given rest : List Token} → given ≡ mul_token op span ∷ rest → stops (want.multipliers d ∷ s) given ≡ stops (term_parts d ++ s) rest
+entered_mul op span d s {given} {rest} h = ap (stops (want.multipliers d ∷ s)) h ∙ take_mul op span d s rest
 
 -- ---- factors
 
@@ -67,23 +67,23 @@ pub no_level : (x : Expected) (s : List Expected) (t : Token) (given rest : List
 no_level x s t given rest h e = ap (stops (x ∷ s)) h ∙ refused x s t rest e ∙ ap (λ (l : List Token). Some (length l)) (sym h)
 
 -- a designator that was read is a factor
-pub place_reads : (place : Designator) (parts : List Expected) (limit : ℕ) (given rest : List Token) → Reads parts limit given (print_designator (designator_tree place)) (depth_of_designator (designator_tree place)) rest → Reads parts limit given (print_factor (factor_tree (factors.Designator place))) (depth_of_factor (factor_tree (factors.Designator place))) rest
-place_reads place parts limit given rest q =
-    subst (λ y. Reads parts limit given (print_factor y) (depth_of_factor y) rest) (sym (place_held place)) q
+pub place_reads : (span : Designator) (parts : List Expected) (limit : ℕ) (given rest : List Token) → ReadsParts parts limit given (print_designator (designator_tree span)) (depth_of_designator (designator_tree span)) rest → ReadsParts parts limit given (print_factor (factor_tree (factors.Designator span))) (depth_of_factor (factor_tree (factors.Designator span))) rest
+place_reads span parts limit given rest q =
+    subst (λ y. ReadsParts parts limit given (print_factor y) (depth_of_factor y) rest) (sym (designator_held span)) q
 
 -- ---- lists with one more item
 
-pub addends_push : (xs : List Addend) (op : AddOperator) (place : Span) (t : Term) (rest : List Token) → print_addends (addends_list (xs ++ roll-Addend (record { operator = op; span = place; term = t }) ∷ [])) rest ≡ print_addends (addends_list xs) (add_token op place ∷ print_term (term_tree t) rest)
-addends_push [] op place t rest = ap (λ y. print_addends y rest) (addend_made op place t no_addends)
-addends_push (x ∷ xs) op place t rest =
-    let item : Addend = roll-Addend (record { operator = op; span = place; term = t }) in
-    ap (λ y. print_addends y rest) (addend_out x (addends_list (xs ++ item ∷ []))) ∙ ap (λ (l : List Token). add_token (out-Addend x).operator (out-Addend x).span ∷ print_term (term_tree (out-Addend x).term) l) (addends_push xs op place t rest) ∙ sym (ap (λ y. print_addends y (add_token op place ∷ print_term (term_tree t) rest)) (addend_out x (addends_list xs)))
+pub addends_push : (xs : List Addend) (op : AddOperator) (span : Span) (t : Term) (rest : List Token) → print_addends (addends_list (xs ++ roll-Addend (record { operator = op; span = span; term = t }) ∷ [])) rest ≡ print_addends (addends_list xs) (add_token op span ∷ print_term (term_tree t) rest)
+addends_push [] op span t rest = ap (λ y. print_addends y rest) (addend_made op span t no_addends)
+addends_push (x ∷ xs) op span t rest =
+    let item : Addend = roll-Addend (record { operator = op; span = span; term = t }) in
+    ap (λ y. print_addends y rest) (addend_out x (addends_list (xs ++ item ∷ []))) ∙ ap (λ (l : List Token). add_token (out-Addend x).operator (out-Addend x).span ∷ print_term (term_tree (out-Addend x).term) l) (addends_push xs op span t rest) ∙ sym (ap (λ y. print_addends y (add_token op span ∷ print_term (term_tree t) rest)) (addend_out x (addends_list xs)))
 
-pub addends_depth : (xs : List Addend) (op : AddOperator) (place : Span) (t : Term) → depth_of_addends (addends_list (xs ++ roll-Addend (record { operator = op; span = place; term = t }) ∷ [])) ≡ max (depth_of_addends (addends_list xs)) (depth_of_term (term_tree t))
-addends_depth [] op place t = ap depth_of_addends (addend_made op place t no_addends) ∙ omega arith
-addends_depth (x ∷ xs) op place t =
-    let item : Addend = roll-Addend (record { operator = op; span = place; term = t }) in
-    omega (arith, addends_depth xs op place t, ap depth_of_addends (addend_out x (addends_list (xs ++ item ∷ []))), ap depth_of_addends (addend_out x (addends_list xs)))
+pub addends_depth : (xs : List Addend) (op : AddOperator) (span : Span) (t : Term) → depth_of_addends (addends_list (xs ++ roll-Addend (record { operator = op; span = span; term = t }) ∷ [])) ≡ max (depth_of_addends (addends_list xs)) (depth_of_term (term_tree t))
+addends_depth [] op span t = ap depth_of_addends (addend_made op span t no_addends) ∙ omega arith
+addends_depth (x ∷ xs) op span t =
+    let item : Addend = roll-Addend (record { operator = op; span = span; term = t }) in
+    omega (arith, addends_depth xs op span t, ap depth_of_addends (addend_out x (addends_list (xs ++ item ∷ []))), ap depth_of_addends (addend_out x (addends_list xs)))
 
 pub multipliers_push : (xs : List Multiplier) (x : Multiplier) (rest : List Token) → print_multipliers (multipliers_list (xs ++ x ∷ [])) rest ≡ print_multipliers (multipliers_list xs) (mul_token x.operator x.span ∷ print_factor (factor_tree x.factor) rest)
 multipliers_push [] x rest = refl
@@ -101,29 +101,29 @@ pub selectors_depth : (xs : List Selector) (x : Selector) → depth_of_selectors
 selectors_depth [] x = omega arith
 selectors_depth (y ∷ ys) x = omega (arith, selectors_depth ys x)
 
-pub more_elements_push : (xs : List NextElement) (place : Span) (e : Element) (rest : List Token) → print_more_elements (more_elements_list (xs ++ roll-NextElement (record { comma = place; element = e }) ∷ [])) rest ≡ print_more_elements (more_elements_list xs) (symbol_token symbols.Comma place ∷ print_element (element_tree e) rest)
-more_elements_push [] place e rest = ap (λ y. print_more_elements y rest) (next_element_made place e no_more_elements)
-more_elements_push (x ∷ xs) place e rest =
-    let item : NextElement = roll-NextElement (record { comma = place; element = e }) in
-    ap (λ y. print_more_elements y rest) (next_element_out x (more_elements_list (xs ++ item ∷ []))) ∙ ap (λ (l : List Token). symbol_token symbols.Comma (out-NextElement x).comma ∷ print_element (element_tree (out-NextElement x).element) l) (more_elements_push xs place e rest) ∙ sym (ap (λ y. print_more_elements y (symbol_token symbols.Comma place ∷ print_element (element_tree e) rest)) (next_element_out x (more_elements_list xs)))
+pub more_elements_push : (xs : List NextElement) (span : Span) (e : Element) (rest : List Token) → print_more_elements (more_elements_list (xs ++ roll-NextElement (record { comma = span; element = e }) ∷ [])) rest ≡ print_more_elements (more_elements_list xs) (symbol_token symbols.Comma span ∷ print_element (element_tree e) rest)
+more_elements_push [] span e rest = ap (λ y. print_more_elements y rest) (next_element_made span e no_more_elements)
+more_elements_push (x ∷ xs) span e rest =
+    let item : NextElement = roll-NextElement (record { comma = span; element = e }) in
+    ap (λ y. print_more_elements y rest) (next_element_out x (more_elements_list (xs ++ item ∷ []))) ∙ ap (λ (l : List Token). symbol_token symbols.Comma (out-NextElement x).comma ∷ print_element (element_tree (out-NextElement x).element) l) (more_elements_push xs span e rest) ∙ sym (ap (λ y. print_more_elements y (symbol_token symbols.Comma span ∷ print_element (element_tree e) rest)) (next_element_out x (more_elements_list xs)))
 
-pub more_elements_depth : (xs : List NextElement) (place : Span) (e : Element) → depth_of_more_elements (more_elements_list (xs ++ roll-NextElement (record { comma = place; element = e }) ∷ [])) ≡ max (depth_of_more_elements (more_elements_list xs)) (depth_of_element (element_tree e))
-more_elements_depth [] place e = ap depth_of_more_elements (next_element_made place e no_more_elements) ∙ omega arith
-more_elements_depth (x ∷ xs) place e =
-    let item : NextElement = roll-NextElement (record { comma = place; element = e }) in
-    omega (arith, more_elements_depth xs place e, ap depth_of_more_elements (next_element_out x (more_elements_list (xs ++ item ∷ []))), ap depth_of_more_elements (next_element_out x (more_elements_list xs)))
+pub more_elements_depth : (xs : List NextElement) (span : Span) (e : Element) → depth_of_more_elements (more_elements_list (xs ++ roll-NextElement (record { comma = span; element = e }) ∷ [])) ≡ max (depth_of_more_elements (more_elements_list xs)) (depth_of_element (element_tree e))
+more_elements_depth [] span e = ap depth_of_more_elements (next_element_made span e no_more_elements) ∙ omega arith
+more_elements_depth (x ∷ xs) span e =
+    let item : NextElement = roll-NextElement (record { comma = span; element = e }) in
+    omega (arith, more_elements_depth xs span e, ap depth_of_more_elements (next_element_out x (more_elements_list (xs ++ item ∷ []))), ap depth_of_more_elements (next_element_out x (more_elements_list xs)))
 
-pub more_exprs_push : (xs : List NextExpr) (place : Span) (e : Expr) (rest : List Token) → print_more_exprs (more_exprs_list (xs ++ roll-NextExpr (record { comma = place; expr = e }) ∷ [])) rest ≡ print_more_exprs (more_exprs_list xs) (symbol_token symbols.Comma place ∷ print_expr (expr_tree e) rest)
-more_exprs_push [] place e rest = ap (λ y. print_more_exprs y rest) (next_expr_made place e no_more_exprs)
-more_exprs_push (x ∷ xs) place e rest =
-    let item : NextExpr = roll-NextExpr (record { comma = place; expr = e }) in
-    ap (λ y. print_more_exprs y rest) (next_expr_out x (more_exprs_list (xs ++ item ∷ []))) ∙ ap (λ (l : List Token). symbol_token symbols.Comma (out-NextExpr x).comma ∷ print_expr (expr_tree (out-NextExpr x).expr) l) (more_exprs_push xs place e rest) ∙ sym (ap (λ y. print_more_exprs y (symbol_token symbols.Comma place ∷ print_expr (expr_tree e) rest)) (next_expr_out x (more_exprs_list xs)))
+pub more_exprs_push : (xs : List NextExpr) (span : Span) (e : Expr) (rest : List Token) → print_more_exprs (more_exprs_list (xs ++ roll-NextExpr (record { comma = span; expr = e }) ∷ [])) rest ≡ print_more_exprs (more_exprs_list xs) (symbol_token symbols.Comma span ∷ print_expr (expr_tree e) rest)
+more_exprs_push [] span e rest = ap (λ y. print_more_exprs y rest) (next_expr_made span e no_more_exprs)
+more_exprs_push (x ∷ xs) span e rest =
+    let item : NextExpr = roll-NextExpr (record { comma = span; expr = e }) in
+    ap (λ y. print_more_exprs y rest) (next_expr_out x (more_exprs_list (xs ++ item ∷ []))) ∙ ap (λ (l : List Token). symbol_token symbols.Comma (out-NextExpr x).comma ∷ print_expr (expr_tree (out-NextExpr x).expr) l) (more_exprs_push xs span e rest) ∙ sym (ap (λ y. print_more_exprs y (symbol_token symbols.Comma span ∷ print_expr (expr_tree e) rest)) (next_expr_out x (more_exprs_list xs)))
 
-pub more_exprs_depth : (xs : List NextExpr) (place : Span) (e : Expr) → depth_of_more_exprs (more_exprs_list (xs ++ roll-NextExpr (record { comma = place; expr = e }) ∷ [])) ≡ max (depth_of_more_exprs (more_exprs_list xs)) (depth_of_expr (expr_tree e))
-more_exprs_depth [] place e = ap depth_of_more_exprs (next_expr_made place e no_more_exprs) ∙ omega arith
-more_exprs_depth (x ∷ xs) place e =
-    let item : NextExpr = roll-NextExpr (record { comma = place; expr = e }) in
-    omega (arith, more_exprs_depth xs place e, ap depth_of_more_exprs (next_expr_out x (more_exprs_list (xs ++ item ∷ []))), ap depth_of_more_exprs (next_expr_out x (more_exprs_list xs)))
+pub more_exprs_depth : (xs : List NextExpr) (span : Span) (e : Expr) → depth_of_more_exprs (more_exprs_list (xs ++ roll-NextExpr (record { comma = span; expr = e }) ∷ [])) ≡ max (depth_of_more_exprs (more_exprs_list xs)) (depth_of_expr (expr_tree e))
+more_exprs_depth [] span e = ap depth_of_more_exprs (next_expr_made span e no_more_exprs) ∙ omega arith
+more_exprs_depth (x ∷ xs) span e =
+    let item : NextExpr = roll-NextExpr (record { comma = span; expr = e }) in
+    omega (arith, more_exprs_depth xs span e, ap depth_of_more_exprs (next_expr_out x (more_exprs_list (xs ++ item ∷ []))), ap depth_of_more_exprs (next_expr_out x (more_exprs_list xs)))
 
 -- ---- types
 

@@ -8,8 +8,10 @@ pub mod ForthModules
 pub mod ForthNames
 pub mod ForthStatements
 pub mod ForthTypes
+pub mod Follows
 pub mod Found
 pub mod Joins
+pub mod OpenArrays
 pub mod Operators
 pub mod Parts
 pub mod StatementJoins

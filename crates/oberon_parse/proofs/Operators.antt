@@ -22,10 +22,10 @@ use Rattle.oberon_tree.specs.Tokens.{ident_token, relator_kind, relator_token, s
 use Rattle.oberon_tree.specs.Trees.{FactorTree, integer_factor, string_factor, true_factor, false_factor}
 use Rattle.oberon_tree.specs.Print.{print_factor, print_value}
 use Rattle.oberon_tree.specs.Levels.{depth_of_factor}
-use Rattle.oberon_parse.specs.Tests.{is_ident, is_literal, is_sign, is_constant, rank}
+use Rattle.oberon_parse.specs.Tests.{is_ident, is_literal, is_sign, is_constant, reach}
 use Rattle.oberon_parse.proofs.Found.{no}
 
-relator_of : (k : TokenKind) → eqb (rank k) 6 ≡ true → (op : Relator) × (k ≡ relator_kind op)
+relator_of : (k : TokenKind) → eqb (reach k) 6 ≡ true → (op : Relator) × (k ≡ relator_kind op)
 relator_of (kinds.Symbol symbols.Equal) e = (relators.Equal, refl)
 relator_of (kinds.Symbol symbols.Hash) e = (relators.Unequal, refl)
 relator_of (kinds.Symbol symbols.Less) e = (relators.Less, refl)
@@ -36,13 +36,13 @@ relator_of (kinds.Word words.In) e = (relators.In, refl)
 relator_of (kinds.Word words.Is) e = (relators.Is, refl)
 relator_of _ e = no (sym e)
 
-add_of : (k : TokenKind) → eqb (rank k) 7 ≡ true → (op : AddOperator) × (k ≡ add_kind op)
+add_of : (k : TokenKind) → eqb (reach k) 7 ≡ true → (op : AddOperator) × (k ≡ add_kind op)
 add_of (kinds.Symbol symbols.Plus) e = (adds.Add, refl)
 add_of (kinds.Symbol symbols.Minus) e = (adds.Subtract, refl)
 add_of (kinds.Word words.Or) e = (adds.Or, refl)
 add_of _ e = no (sym e)
 
-mul_of : (k : TokenKind) → eqb (rank k) 8 ≡ true → (op : MulOperator) × (k ≡ mul_kind op)
+mul_of : (k : TokenKind) → eqb (reach k) 8 ≡ true → (op : MulOperator) × (k ≡ mul_kind op)
 mul_of (kinds.Symbol symbols.Star) e = (muls.Multiply, refl)
 mul_of (kinds.Symbol symbols.Slash) e = (muls.Divide, refl)
 mul_of (kinds.Word words.Div) e = (muls.Div, refl)
@@ -55,13 +55,13 @@ sign_of (kinds.Symbol symbols.Plus) e = (signs.Plus, refl)
 sign_of (kinds.Symbol symbols.Minus) e = (signs.Minus, refl)
 sign_of _ e = no (sym e)
 
-pub relator_found : (t : Token) → eqb (rank t.kind) 6 ≡ true → (op : Relator) × (t ≡ relator_token op t.span)
+pub relator_found : (t : Token) → eqb (reach t.kind) 6 ≡ true → (op : Relator) × (t ≡ relator_token op t.span)
 relator_found t e = let r = relator_of t.kind e in (r.0, λ i. record { span = t.span; kind = r.1 i })
 
-pub add_found : (t : Token) → eqb (rank t.kind) 7 ≡ true → (op : AddOperator) × (t ≡ add_token op t.span)
+pub add_found : (t : Token) → eqb (reach t.kind) 7 ≡ true → (op : AddOperator) × (t ≡ add_token op t.span)
 add_found t e = let r = add_of t.kind e in (r.0, λ i. record { span = t.span; kind = r.1 i })
 
-pub mul_found : (t : Token) → eqb (rank t.kind) 8 ≡ true → (op : MulOperator) × (t ≡ mul_token op t.span)
+pub mul_found : (t : Token) → eqb (reach t.kind) 8 ≡ true → (op : MulOperator) × (t ≡ mul_token op t.span)
 mul_found t e = let r = mul_of t.kind e in (r.0, λ i. record { span = t.span; kind = r.1 i })
 
 pub sign_found : (t : Token) → is_sign t.kind ≡ true → (op : Sign) × (t ≡ sign_token op t.span)
@@ -78,23 +78,23 @@ pub ident_found : (t : Token) → is_ident t.kind ≡ true → (i : Ident) × (t
 ident_found t e = let r = ident_of t.kind e in (record { span = t.span; name = r.0 }, λ i. record { span = t.span; kind = r.1 i })
 
 -- a number or a string, as the value of a label
-value_of : (place : Span) (k : TokenKind) → is_literal k ≡ true → (v : LabelValue) × ((rest : List Token) → record { span = place; kind = k } ∷ rest ≡ print_value v rest)
-value_of place (kinds.Ident x) e = no (sym e)
-value_of place (kinds.Integer x) e = (values.Integer (record { span = place; value = x }), λ rest. refl)
-value_of place (kinds.Str x) e = (values.Str (record { span = place; value = x }), λ rest. refl)
-value_of place (kinds.Word x) e = no (sym e)
-value_of place (kinds.Symbol x) e = no (sym e)
+value_of : (span : Span) (k : TokenKind) → is_literal k ≡ true → (v : LabelValue) × ((rest : List Token) → record { span = span; kind = k } ∷ rest ≡ print_value v rest)
+value_of span (kinds.Ident x) e = no (sym e)
+value_of span (kinds.Integer x) e = (values.Integer (record { span = span; value = x }), λ rest. refl)
+value_of span (kinds.Str x) e = (values.Str (record { span = span; value = x }), λ rest. refl)
+value_of span (kinds.Word x) e = no (sym e)
+value_of span (kinds.Symbol x) e = no (sym e)
 
 pub value_found : (t : Token) → is_literal t.kind ≡ true → (v : LabelValue) × ((rest : List Token) → t ∷ rest ≡ print_value v rest)
 value_found t e = value_of t.span t.kind e
 
 -- a number, a string, TRUE or FALSE, as a factor
-constant_of : (place : Span) (k : TokenKind) → is_constant k ≡ true → (f : FactorTree) × ((rest : List Token) → record { span = place; kind = k } ∷ rest ≡ print_factor f rest) × (depth_of_factor f ≡ 0)
-constant_of place (kinds.Integer x) e = (integer_factor (record { span = place; value = x }), λ rest. refl, refl)
-constant_of place (kinds.Str x) e = (string_factor (record { span = place; value = x }), λ rest. refl, refl)
-constant_of place (kinds.Word words.True) e = (true_factor place, λ rest. refl, refl)
-constant_of place (kinds.Word words.False) e = (false_factor place, λ rest. refl, refl)
-constant_of place _ e = no (sym e)
+constant_of : (span : Span) (k : TokenKind) → is_constant k ≡ true → (f : FactorTree) × ((rest : List Token) → record { span = span; kind = k } ∷ rest ≡ print_factor f rest) × (depth_of_factor f ≡ 0)
+constant_of span (kinds.Integer x) e = (integer_factor (record { span = span; value = x }), λ rest. refl, refl)
+constant_of span (kinds.Str x) e = (string_factor (record { span = span; value = x }), λ rest. refl, refl)
+constant_of span (kinds.Word words.True) e = (true_factor span, λ rest. refl, refl)
+constant_of span (kinds.Word words.False) e = (false_factor span, λ rest. refl, refl)
+constant_of span _ e = no (sym e)
 
 pub constant_found : (t : Token) → is_constant t.kind ≡ true → (f : FactorTree) × ((rest : List Token) → t ∷ rest ≡ print_factor f rest) × (depth_of_factor f ≡ 0)
 constant_found t e = constant_of t.span t.kind e

@@ -22,7 +22,7 @@ use Rattle.oberon_parse.specs.Tests.{is_literal, is_ident, next_is}
 use Rattle.oberon_parse.specs.Machine.{statements_parts, stops}
 use Rattle.oberon_parse.specs.declared.stop.Stop.{Stop}
 use Rattle.oberon_parse.specs.declared.stop.Stop.TheVariants as stop
-use Rattle.oberon_parse.specs.Reads.{Single, FirstValue, StopsValue}
+use Rattle.oberon_parse.specs.Reading.{Single, FirstValue, StopsValue}
 use Rattle.oberon_parse.proofs.Descending.{by_memory}
 use Rattle.oberon_parse.proofs.Steps.{taken, refused, lacked}
 
@@ -66,14 +66,14 @@ guards_push : (w : Word) (xs : List Guarded) (x : Guarded) (rest : List Token) �
 guards_push w [] x rest = refl
 guards_push w (y ∷ ys) x rest = ap (print_guarded words.Elsif w (guarded_tree y)) (guards_push w ys x rest)
 
-pub elsifs_push : (w : Word) (xs : List Guarded) (place : Span) (e : Expr) (joint : Span) (ss : Statements) (rest : List Token) → print_elsifs w (elsifs_list (xs ++ roll-Guarded (record { word = place; condition = e; body_word = joint; body = ss }) ∷ [])) rest ≡ print_elsifs w (elsifs_list xs) (word_token words.Elsif place ∷ print_expr (expr_tree e) (word_token w joint ∷ print_statements (statements_tree ss) rest))
-elsifs_push w xs place e joint ss rest =
-    guards_push w xs (roll-Guarded (record { word = place; condition = e; body_word = joint; body = ss })) rest ∙ ap (λ g. print_elsifs w (elsifs_list xs) (print_guarded words.Elsif w g rest)) (guarded_made place e joint ss)
+pub elsifs_push : (w : Word) (xs : List Guarded) (span : Span) (e : Expr) (joint : Span) (ss : Statements) (rest : List Token) → print_elsifs w (elsifs_list (xs ++ roll-Guarded (record { word = span; condition = e; body_word = joint; body = ss }) ∷ [])) rest ≡ print_elsifs w (elsifs_list xs) (word_token words.Elsif span ∷ print_expr (expr_tree e) (word_token w joint ∷ print_statements (statements_tree ss) rest))
+elsifs_push w xs span e joint ss rest =
+    guards_push w xs (roll-Guarded (record { word = span; condition = e; body_word = joint; body = ss })) rest ∙ ap (λ g. print_elsifs w (elsifs_list xs) (print_guarded words.Elsif w g rest)) (guarded_made span e joint ss)
 
 guards_depth : (xs : List Guarded) (x : Guarded) → depth_of_elsifs (elsifs_list (xs ++ x ∷ [])) ≡ max (depth_of_elsifs (elsifs_list xs)) (depth_of_guarded (guarded_tree x))
 guards_depth [] x = omega arith
 guards_depth (y ∷ ys) x = omega (arith, guards_depth ys x)
 
-pub elsifs_depth : (xs : List Guarded) (place : Span) (e : Expr) (joint : Span) (ss : Statements) → depth_of_elsifs (elsifs_list (xs ++ roll-Guarded (record { word = place; condition = e; body_word = joint; body = ss }) ∷ [])) ≡ max (depth_of_elsifs (elsifs_list xs)) (max (depth_of_expr (expr_tree e)) (depth_of_statements (statements_tree ss)))
-elsifs_depth xs place e joint ss =
-    guards_depth xs (roll-Guarded (record { word = place; condition = e; body_word = joint; body = ss })) ∙ ap (λ g. max (depth_of_elsifs (elsifs_list xs)) (depth_of_guarded g)) (guarded_made place e joint ss)
+pub elsifs_depth : (xs : List Guarded) (span : Span) (e : Expr) (joint : Span) (ss : Statements) → depth_of_elsifs (elsifs_list (xs ++ roll-Guarded (record { word = span; condition = e; body_word = joint; body = ss }) ∷ [])) ≡ max (depth_of_elsifs (elsifs_list xs)) (max (depth_of_expr (expr_tree e)) (depth_of_statements (statements_tree ss)))
+elsifs_depth xs span e joint ss =
+    guards_depth xs (roll-Guarded (record { word = span; condition = e; body_word = joint; body = ss })) ∙ ap (λ g. max (depth_of_elsifs (elsifs_list xs)) (depth_of_guarded g)) (guarded_made span e joint ss)

@@ -1,5 +1,5 @@
 pub mod Expected
 pub mod Machine
-pub mod Reads
+pub mod Reading
 pub mod Sentence
 pub mod Tests

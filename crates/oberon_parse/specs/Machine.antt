@@ -7,7 +7,7 @@ use Rattle.oberon_scan.specs.declared.token.TokenKind.{TokenKind}
 use Rattle.oberon_scan.specs.declared.token.Word.{Word}
 use Rattle.oberon_scan.specs.declared.token.Word.TheVariants as words
 use Rattle.oberon_scan.specs.declared.token.Symbol.TheVariants as symbols
-use Rattle.oberon_parse.specs.Tests.{is_word, is_symbol, is_ident, is_literal, is_sign, is_constant, rank}
+use Rattle.oberon_parse.specs.Tests.{is_word, is_symbol, is_ident, is_literal, is_sign, is_constant, reach}
 use Rattle.oberon_parse.specs.Expected.{Expected}
 use Rattle.oberon_parse.specs.Expected as want
 
@@ -27,9 +27,6 @@ exprs_parts d = expr_parts d ++ want.exprs d ∷ []
 
 abbrev pub element_parts : ℕ → List Expected
 element_parts d = expr_parts d ++ want.some_upper d ∷ []
-
-abbrev pub designator_parts : ℕ → List Expected
-designator_parts d = want.ident ∷ want.selectors d ∷ []
 
 abbrev pub qualident_parts : List Expected
 qualident_parts = want.ident ∷ want.some_member ∷ []
@@ -86,7 +83,7 @@ module_parts d =
 
 -- ---- one step
 
--- What the top of the stack does with a token: takes it, and these are expected in its place; is done,
+-- What the top of the stack does with a token: takes it, and these are expected in its span; is done,
 -- and the token is the next one's; or refuses it.
 pub data Move : Type 0 where
   takes : List Expected → Move
@@ -126,9 +123,9 @@ move want.ident_defs k = allows (is_symbol symbols.Comma k) ident_defs_parts
 move want.idents k = allows (is_symbol symbols.Comma k) idents_parts
 move want.some_sign k = allows (is_sign k) []
 move (want.factor d) k = begins_factor d k []
-move (want.multipliers d) k = allows (eqb (rank k) 8) (term_parts d)
-move (want.addends d) k = allows (eqb (rank k) 7) (term_parts d ++ want.addends d ∷ [])
-move (want.some_relation d) k = allows (eqb (rank k) 6) (simple_parts d)
+move (want.multipliers d) k = allows (eqb (reach k) 8) (term_parts d)
+move (want.addends d) k = allows (eqb (reach k) 7) (term_parts d ++ want.addends d ∷ [])
+move (want.some_relation d) k = allows (eqb (reach k) 6) (simple_parts d)
 move (want.rest_of_set d) k = cond (is_symbol symbols.CloseBrace k) (takes []) (begins_expr d k (want.some_upper d ∷ want.elements d ∷ want.symbol symbols.CloseBrace ∷ []))
 move (want.some_upper d) k = allows (is_symbol symbols.DotDot k) (expr_parts d)
 move (want.elements d) k = allows (is_symbol symbols.Comma k) (element_parts d ++ want.elements d ∷ [])

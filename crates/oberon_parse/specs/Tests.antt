@@ -114,129 +114,77 @@ is_constant k = cond (is_literal k) true (cond (is_word words.True k) true (is_w
 -- How far inside the constructs that have an open end a token goes on: 9 with a designator, 8 with a
 -- term, 7 with a simple expression, 6 with an expression, 5 with a range, 4 with a list behind commas,
 -- 3 with an assignment, 2 where a statement begins, 1 with a list behind semicolons.
-abbrev pub symbol_rank : Symbol → ℕ
-symbol_rank symbols.Plus = 7
-symbol_rank symbols.Minus = 7
-symbol_rank symbols.Star = 8
-symbol_rank symbols.Slash = 8
-symbol_rank symbols.Tilde = 0
-symbol_rank symbols.Ampersand = 8
-symbol_rank symbols.Period = 9
-symbol_rank symbols.Comma = 4
-symbol_rank symbols.Semicolon = 1
-symbol_rank symbols.Bar = 0
-symbol_rank symbols.OpenParen = 9
-symbol_rank symbols.CloseParen = 0
-symbol_rank symbols.OpenBracket = 9
-symbol_rank symbols.CloseBracket = 0
-symbol_rank symbols.OpenBrace = 0
-symbol_rank symbols.CloseBrace = 0
-symbol_rank symbols.Becomes = 3
-symbol_rank symbols.Caret = 0
-symbol_rank symbols.Equal = 6
-symbol_rank symbols.Hash = 6
-symbol_rank symbols.Less = 6
-symbol_rank symbols.Greater = 6
-symbol_rank symbols.LessEqual = 6
-symbol_rank symbols.GreaterEqual = 6
-symbol_rank symbols.Colon = 0
-symbol_rank symbols.DotDot = 5
+abbrev pub symbol_reach : Symbol → ℕ
+symbol_reach symbols.Plus = 7
+symbol_reach symbols.Minus = 7
+symbol_reach symbols.Star = 8
+symbol_reach symbols.Slash = 8
+symbol_reach symbols.Tilde = 0
+symbol_reach symbols.Ampersand = 8
+symbol_reach symbols.Period = 9
+symbol_reach symbols.Comma = 4
+symbol_reach symbols.Semicolon = 1
+symbol_reach symbols.Bar = 0
+symbol_reach symbols.OpenParen = 9
+symbol_reach symbols.CloseParen = 0
+symbol_reach symbols.OpenBracket = 9
+symbol_reach symbols.CloseBracket = 0
+symbol_reach symbols.OpenBrace = 0
+symbol_reach symbols.CloseBrace = 0
+symbol_reach symbols.Becomes = 3
+symbol_reach symbols.Caret = 0
+symbol_reach symbols.Equal = 6
+symbol_reach symbols.Hash = 6
+symbol_reach symbols.Less = 6
+symbol_reach symbols.Greater = 6
+symbol_reach symbols.LessEqual = 6
+symbol_reach symbols.GreaterEqual = 6
+symbol_reach symbols.Colon = 0
+symbol_reach symbols.DotDot = 5
 
-abbrev pub word_rank : Word → ℕ
-word_rank words.Array = 0
-word_rank words.Begin = 0
-word_rank words.By = 0
-word_rank words.Case = 2
-word_rank words.Const = 0
-word_rank words.Div = 8
-word_rank words.Do = 0
-word_rank words.Else = 0
-word_rank words.Elsif = 0
-word_rank words.End = 0
-word_rank words.False = 0
-word_rank words.For = 2
-word_rank words.If = 2
-word_rank words.Import = 0
-word_rank words.In = 6
-word_rank words.Is = 6
-word_rank words.Mod = 8
-word_rank words.Module = 0
-word_rank words.Nil = 0
-word_rank words.Of = 0
-word_rank words.Or = 7
-word_rank words.Pointer = 0
-word_rank words.Procedure = 0
-word_rank words.Record = 0
-word_rank words.Repeat = 2
-word_rank words.Return = 0
-word_rank words.Then = 0
-word_rank words.To = 0
-word_rank words.True = 0
-word_rank words.Type = 0
-word_rank words.Until = 0
-word_rank words.Var = 0
-word_rank words.While = 2
+abbrev pub word_reach : Word → ℕ
+word_reach words.Array = 0
+word_reach words.Begin = 0
+word_reach words.By = 0
+word_reach words.Case = 2
+word_reach words.Const = 0
+word_reach words.Div = 8
+word_reach words.Do = 0
+word_reach words.Else = 0
+word_reach words.Elsif = 0
+word_reach words.End = 0
+word_reach words.False = 0
+word_reach words.For = 2
+word_reach words.If = 2
+word_reach words.Import = 0
+word_reach words.In = 6
+word_reach words.Is = 6
+word_reach words.Mod = 8
+word_reach words.Module = 0
+word_reach words.Nil = 0
+word_reach words.Of = 0
+word_reach words.Or = 7
+word_reach words.Pointer = 0
+word_reach words.Procedure = 0
+word_reach words.Record = 0
+word_reach words.Repeat = 2
+word_reach words.Return = 0
+word_reach words.Then = 0
+word_reach words.To = 0
+word_reach words.True = 0
+word_reach words.Type = 0
+word_reach words.Until = 0
+word_reach words.Var = 0
+word_reach words.While = 2
 
-abbrev pub rank : TokenKind → ℕ
-rank (kinds.Ident x) = 2
-rank (kinds.Integer x) = 0
-rank (kinds.Str x) = 0
-rank (kinds.Word x) = word_rank x
-rank (kinds.Symbol x) = symbol_rank x
-
--- The part of a module that a token begins, the earlier part by the greater number, with an identifier
--- for an item of a declaration.
-abbrev pub word_stage : Word → ℕ
-word_stage words.Array = 0
-word_stage words.Begin = 2
-word_stage words.By = 0
-word_stage words.Case = 0
-word_stage words.Const = 6
-word_stage words.Div = 0
-word_stage words.Do = 0
-word_stage words.Else = 0
-word_stage words.Elsif = 0
-word_stage words.End = 0
-word_stage words.False = 0
-word_stage words.For = 0
-word_stage words.If = 0
-word_stage words.Import = 8
-word_stage words.In = 0
-word_stage words.Is = 0
-word_stage words.Mod = 0
-word_stage words.Module = 0
-word_stage words.Nil = 0
-word_stage words.Of = 0
-word_stage words.Or = 0
-word_stage words.Pointer = 0
-word_stage words.Procedure = 3
-word_stage words.Record = 0
-word_stage words.Repeat = 0
-word_stage words.Return = 1
-word_stage words.Then = 0
-word_stage words.To = 0
-word_stage words.True = 0
-word_stage words.Type = 5
-word_stage words.Until = 0
-word_stage words.Var = 4
-word_stage words.While = 0
-
-abbrev pub stage : TokenKind → ℕ
-stage (kinds.Ident x) = 7
-stage (kinds.Integer x) = 0
-stage (kinds.Str x) = 0
-stage (kinds.Word x) = word_stage x
-stage (kinds.Symbol x) = 0
+abbrev pub reach : TokenKind → ℕ
+reach (kinds.Ident x) = 2
+reach (kinds.Integer x) = 0
+reach (kinds.Str x) = 0
+reach (kinds.Word x) = word_reach x
+reach (kinds.Symbol x) = symbol_reach x
 
 -- the same of the next token of a list
 abbrev pub next_is : (TokenKind → Bool) → List Token → Bool
 next_is test [] = false
 next_is test (t ∷ ts) = test t.kind
-
-abbrev pub next_rank : List Token → ℕ
-next_rank [] = 0
-next_rank (t ∷ ts) = rank t.kind
-
-abbrev pub next_stage : List Token → ℕ
-next_stage [] = 0
-next_stage (t ∷ ts) = stage t.kind

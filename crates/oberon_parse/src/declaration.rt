@@ -7,7 +7,7 @@ ghost use Rattle.oberon_tree.specs.Levels.{depth_of_some, depth_of_each, depth_o
 ghost use Rattle.oberon_tree.specs.Memory.{constant_tree, constants_tree, type_declaration_tree, types_tree, variable_tree, variables_tree, declarations_tree};
 ghost use Rattle.oberon_parse.specs.Expected as want;
 ghost use Rattle.oberon_parse.specs.Machine.{declarations_parts};
-ghost use Rattle.oberon_parse.specs.Reads.{Reads, ReadsSome, Stops};
+ghost use Rattle.oberon_parse.specs.Reading.{ReadsParts, ReadsSome, StopsAt};
 
 use crate::expression::expr;
 use crate::name::{mark, more_ident_defs};
@@ -28,10 +28,10 @@ pub fn declarations(
     levels: usize,
 ) -> Result<(Declarations, &[Token]), Stop>
     ensures { MatchResult result
-        (λ x. Reads (declarations_parts levels) levels given.now
+        (λ x. ReadsParts (declarations_parts levels) levels given.now
         (print_declarations (declarations_tree x.0))
         (depth_of_declarations (declarations_tree x.0)) x.1.now)
-        (λ e. Stops (declarations_parts levels) given.now e) }
+        (λ e. StopsAt (declarations_parts levels) given.now e) }
 {
     let (constants, rest) = constants(alloc, given, levels)?;
     let (types, rest) = types(alloc, rest, levels)?;
@@ -51,16 +51,16 @@ fn constants(
     levels: usize,
 ) -> Result<(Option<Constants>, &[Token]), Stop>
     ensures { MatchResult result
-        (λ x. Reads (want.some_constants levels ∷ []) levels given.now
+        (λ x. ReadsParts (want.some_constants levels ∷ []) levels given.now
         (print_some print_constants (option_map constants_tree x.0))
         (depth_of_some depth_of_constants (option_map constants_tree x.0)) x.1.now)
-        (λ e. Stops (want.some_constants levels ∷ []) given.now e) }
+        (λ e. StopsAt (want.some_constants levels ∷ []) given.now e) }
 {
-    let Some((place, rest)) = word(given, Word::Const) else {
+    let Some((span, rest)) = word(given, Word::Const) else {
         return Ok((None, given));
     };
     let (items, rest) = more_constants(alloc, rest, levels)?;
-    Ok((Some(Constants { word: place, items }), rest))
+    Ok((Some(Constants { word: span, items }), rest))
 }
 
 fn more_constants(
@@ -69,10 +69,10 @@ fn more_constants(
     levels: usize,
 ) -> Result<(Vec<Constant>, &[Token]), Stop>
     ensures { MatchResult result
-        (λ x. Reads (want.constants levels ∷ []) levels given.now
+        (λ x. ReadsParts (want.constants levels ∷ []) levels given.now
         (print_each print_constant (map constant_tree x.0.items))
         (depth_of_each depth_of_constant (map constant_tree x.0.items)) x.1.now)
-        (λ e. Stops (want.constants levels ∷ []) given.now e) }
+        (λ e. StopsAt (want.constants levels ∷ []) given.now e) }
 {
     let mut items = Vec::new(alloc);
     let mut rest = given;
@@ -95,7 +95,7 @@ fn constant(
         (λ x. ReadsSome (want.constants levels) levels (ident_token name ∷ given.now)
         (print_constant (constant_tree x.0)) (depth_of_constant (constant_tree x.0)) x.1.now
         × (length x.1.now ≤ length given.now))
-        (λ e. Stops (want.constants levels ∷ []) (ident_token name ∷ given.now) e) }
+        (λ e. StopsAt (want.constants levels ∷ []) (ident_token name ∷ given.now) e) }
 {
     let (export, rest) = mark(given);
     let (equal, rest) = need_symbol(rest, Symbol::Equal)?;
@@ -113,16 +113,16 @@ fn constant(
 /// `[TYPE {typedeclaration}]`.
 fn types(alloc: Global, given: &[Token], levels: usize) -> Result<(Option<Types>, &[Token]), Stop>
     ensures { MatchResult result
-        (λ x. Reads (want.some_types levels ∷ []) levels given.now
+        (λ x. ReadsParts (want.some_types levels ∷ []) levels given.now
         (print_some print_types (option_map types_tree x.0))
         (depth_of_some depth_of_types (option_map types_tree x.0)) x.1.now)
-        (λ e. Stops (want.some_types levels ∷ []) given.now e) }
+        (λ e. StopsAt (want.some_types levels ∷ []) given.now e) }
 {
-    let Some((place, rest)) = word(given, Word::Type) else {
+    let Some((span, rest)) = word(given, Word::Type) else {
         return Ok((None, given));
     };
     let (items, rest) = more_types(alloc, rest, levels)?;
-    Ok((Some(Types { word: place, items }), rest))
+    Ok((Some(Types { word: span, items }), rest))
 }
 
 fn more_types(
@@ -131,10 +131,10 @@ fn more_types(
     levels: usize,
 ) -> Result<(Vec<TypeDeclaration>, &[Token]), Stop>
     ensures { MatchResult result
-        (λ x. Reads (want.types levels ∷ []) levels given.now
+        (λ x. ReadsParts (want.types levels ∷ []) levels given.now
         (print_each print_type_declaration (map type_declaration_tree x.0.items))
         (depth_of_each depth_of_type_declaration (map type_declaration_tree x.0.items)) x.1.now)
-        (λ e. Stops (want.types levels ∷ []) given.now e) }
+        (λ e. StopsAt (want.types levels ∷ []) given.now e) }
 {
     let mut items = Vec::new(alloc);
     let mut rest = given;
@@ -157,7 +157,7 @@ fn type_declaration(
         (λ x. ReadsSome (want.types levels) levels (ident_token name ∷ given.now)
         (print_type_declaration (type_declaration_tree x.0)) (depth_of_type_declaration (type_declaration_tree x.0)) x.1.now
         × (length x.1.now ≤ length given.now))
-        (λ e. Stops (want.types levels ∷ []) (ident_token name ∷ given.now) e) }
+        (λ e. StopsAt (want.types levels ∷ []) (ident_token name ∷ given.now) e) }
 {
     let (export, rest) = mark(given);
     let (equal, rest) = need_symbol(rest, Symbol::Equal)?;
@@ -179,16 +179,16 @@ fn variables(
     levels: usize,
 ) -> Result<(Option<Variables>, &[Token]), Stop>
     ensures { MatchResult result
-        (λ x. Reads (want.some_variables levels ∷ []) levels given.now
+        (λ x. ReadsParts (want.some_variables levels ∷ []) levels given.now
         (print_some print_variables (option_map variables_tree x.0))
         (depth_of_some depth_of_variables (option_map variables_tree x.0)) x.1.now)
-        (λ e. Stops (want.some_variables levels ∷ []) given.now e) }
+        (λ e. StopsAt (want.some_variables levels ∷ []) given.now e) }
 {
-    let Some((place, rest)) = word(given, Word::Var) else {
+    let Some((span, rest)) = word(given, Word::Var) else {
         return Ok((None, given));
     };
     let (items, rest) = more_variables(alloc, rest, levels)?;
-    Ok((Some(Variables { word: place, items }), rest))
+    Ok((Some(Variables { word: span, items }), rest))
 }
 
 fn more_variables(
@@ -197,10 +197,10 @@ fn more_variables(
     levels: usize,
 ) -> Result<(Vec<Variable>, &[Token]), Stop>
     ensures { MatchResult result
-        (λ x. Reads (want.variables levels ∷ []) levels given.now
+        (λ x. ReadsParts (want.variables levels ∷ []) levels given.now
         (print_each print_variable (map variable_tree x.0.items))
         (depth_of_each depth_of_variable (map variable_tree x.0.items)) x.1.now)
-        (λ e. Stops (want.variables levels ∷ []) given.now e) }
+        (λ e. StopsAt (want.variables levels ∷ []) given.now e) }
 {
     let mut items = Vec::new(alloc);
     let mut rest = given;
@@ -223,7 +223,7 @@ fn variable(
         (λ x. ReadsSome (want.variables levels) levels (ident_token name ∷ given.now)
         (print_variable (variable_tree x.0)) (depth_of_variable (variable_tree x.0)) x.1.now
         × (length x.1.now ≤ length given.now))
-        (λ e. Stops (want.variables levels ∷ []) (ident_token name ∷ given.now) e) }
+        (λ e. StopsAt (want.variables levels ∷ []) (ident_token name ∷ given.now) e) }
 {
     let (export, rest) = mark(given);
     let (next, rest) = more_ident_defs(alloc, rest)?;

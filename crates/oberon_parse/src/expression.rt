@@ -9,7 +9,7 @@ ghost use Rattle.oberon_tree.specs.Memory.{expr_tree, relation_option, simple_tr
 ghost use Rattle.oberon_parse.specs.Expected as want;
 ghost use Rattle.oberon_parse.specs.Tests.{is_symbol, next_is};
 ghost use Rattle.oberon_parse.specs.Machine.{term_parts, simple_parts, expr_parts, exprs_parts, element_parts};
-ghost use Rattle.oberon_parse.specs.Reads.{Reads, ReadsSome, Stops};
+ghost use Rattle.oberon_parse.specs.Reading.{ReadsParts, ReadsSome, StopsAt};
 
 use crate::read::{
     add_operator, constant, ident, mul_operator, need_ident, need_symbol, relator, sign, symbol,
@@ -27,8 +27,8 @@ use std::alloc::Global;
 #[cycle(expression)]
 pub fn expr(alloc: Global, given: &[Token], levels: usize) -> Result<(Expr, &[Token]), Stop>
     ensures { MatchResult result
-        (λ x. Reads (expr_parts levels) levels given.now (print_expr (expr_tree x.0)) (depth_of_expr (expr_tree x.0)) x.1.now)
-        (λ e. Stops (expr_parts levels) given.now e) }
+        (λ x. ReadsParts (expr_parts levels) levels given.now (print_expr (expr_tree x.0)) (depth_of_expr (expr_tree x.0)) x.1.now)
+        (λ e. StopsAt (expr_parts levels) given.now e) }
 {
     let (left, rest) = simple(alloc, given, levels)?;
     let (relation, rest) = relation(alloc, rest, levels)?;
@@ -43,8 +43,8 @@ fn relation(
     levels: usize,
 ) -> Result<(Option<Box<Relation>>, &[Token]), Stop>
     ensures { MatchResult result
-        (λ x. Reads (want.some_relation levels ∷ []) levels given.now (print_relation (relation_option x.0)) (depth_of_relation (relation_option x.0)) x.1.now)
-        (λ e. Stops (want.some_relation levels ∷ []) given.now e) }
+        (λ x. ReadsParts (want.some_relation levels ∷ []) levels given.now (print_relation (relation_option x.0)) (depth_of_relation (relation_option x.0)) x.1.now)
+        (λ e. StopsAt (want.some_relation levels ∷ []) given.now e) }
 {
     let Some((operator, span, rest)) = relator(given) else {
         return Ok((None, given));
@@ -63,8 +63,8 @@ fn relation(
 #[cycle(expression)]
 fn simple(alloc: Global, given: &[Token], levels: usize) -> Result<(Simple, &[Token]), Stop>
     ensures { MatchResult result
-        (λ x. Reads (simple_parts levels) levels given.now (print_simple (simple_tree x.0)) (depth_of_simple (simple_tree x.0)) x.1.now)
-        (λ e. Stops (simple_parts levels) given.now e) }
+        (λ x. ReadsParts (simple_parts levels) levels given.now (print_simple (simple_tree x.0)) (depth_of_simple (simple_tree x.0)) x.1.now)
+        (λ e. StopsAt (simple_parts levels) given.now e) }
 {
     let (sign, rest) = sign(given);
     let (first, rest) = term(alloc, rest, levels)?;
@@ -81,9 +81,9 @@ fn simple(alloc: Global, given: &[Token], levels: usize) -> Result<(Simple, &[To
 #[cycle(expression)]
 fn addends(alloc: Global, given: &[Token], levels: usize) -> Result<(Vec<Addend>, &[Token]), Stop>
     ensures { MatchResult result
-        (λ x. Reads (want.addends levels ∷ []) levels given.now (print_addends (addends_list x.0.items))
+        (λ x. ReadsParts (want.addends levels ∷ []) levels given.now (print_addends (addends_list x.0.items))
         (depth_of_addends (addends_list x.0.items)) x.1.now)
-        (λ e. Stops (want.addends levels ∷ []) given.now e) }
+        (λ e. StopsAt (want.addends levels ∷ []) given.now e) }
 {
     let mut items = Vec::new(alloc);
     let mut rest = given;
@@ -103,8 +103,8 @@ fn addends(alloc: Global, given: &[Token], levels: usize) -> Result<(Vec<Addend>
 #[cycle(expression)]
 fn term(alloc: Global, given: &[Token], levels: usize) -> Result<(Term, &[Token]), Stop>
     ensures { MatchResult result
-        (λ x. Reads (term_parts levels) levels given.now (print_term (term_tree x.0)) (depth_of_term (term_tree x.0)) x.1.now)
-        (λ e. Stops (term_parts levels) given.now e) }
+        (λ x. ReadsParts (term_parts levels) levels given.now (print_term (term_tree x.0)) (depth_of_term (term_tree x.0)) x.1.now)
+        (λ e. StopsAt (term_parts levels) given.now e) }
 {
     let (first, rest) = factor(alloc, given, levels)?;
     let (factors, rest) = multipliers(alloc, rest, levels)?;
@@ -123,10 +123,10 @@ fn multipliers(
     levels: usize,
 ) -> Result<(Vec<Multiplier>, &[Token]), Stop>
     ensures { MatchResult result
-        (λ x. Reads (want.multipliers levels ∷ []) levels given.now
+        (λ x. ReadsParts (want.multipliers levels ∷ []) levels given.now
         (print_multipliers (multipliers_list x.0.items))
         (depth_of_multipliers (multipliers_list x.0.items)) x.1.now)
-        (λ e. Stops (want.multipliers levels ∷ []) given.now e) }
+        (λ e. StopsAt (want.multipliers levels ∷ []) given.now e) }
 {
     let mut items = Vec::new(alloc);
     let mut rest = given;
@@ -146,8 +146,8 @@ fn multipliers(
 #[cycle(expression)]
 fn factor(alloc: Global, given: &[Token], levels: usize) -> Result<(Factor, &[Token]), Stop>
     ensures { MatchResult result
-        (λ x. Reads (want.factor levels ∷ []) levels given.now (print_factor (factor_tree x.0)) (depth_of_factor (factor_tree x.0)) x.1.now)
-        (λ e. Stops (want.factor levels ∷ []) given.now e) }
+        (λ x. ReadsParts (want.factor levels ∷ []) levels given.now (print_factor (factor_tree x.0)) (depth_of_factor (factor_tree x.0)) x.1.now)
+        (λ e. StopsAt (want.factor levels ∷ []) given.now e) }
 {
     if let Some(found) = constant(alloc, given)? {
         return Ok(found);
@@ -180,8 +180,8 @@ fn group(
     levels: usize,
 ) -> Result<(Factor, &[Token]), Stop>
     ensures { MatchResult result
-        (λ x. Reads (want.factor (suc levels) ∷ []) (suc levels) (symbol_token symbols.OpenParen opening ∷ given.now) (print_factor (factor_tree x.0)) (depth_of_factor (factor_tree x.0)) x.1.now)
-        (λ e. Stops (want.factor (suc levels) ∷ []) (symbol_token symbols.OpenParen opening ∷ given.now) e) }
+        (λ x. ReadsParts (want.factor (suc levels) ∷ []) (suc levels) (symbol_token symbols.OpenParen opening ∷ given.now) (print_factor (factor_tree x.0)) (depth_of_factor (factor_tree x.0)) x.1.now)
+        (λ e. StopsAt (want.factor (suc levels) ∷ []) (symbol_token symbols.OpenParen opening ∷ given.now) e) }
 {
     let (inner, rest) = expr(alloc, given, levels)?;
     let (closing, rest) = need_symbol(rest, Symbol::CloseParen)?;
@@ -203,8 +203,8 @@ fn negation(
     levels: usize,
 ) -> Result<(Factor, &[Token]), Stop>
     ensures { MatchResult result
-        (λ x. Reads (want.factor (suc levels) ∷ []) (suc levels) (symbol_token symbols.Tilde tilde ∷ given.now) (print_factor (factor_tree x.0)) (depth_of_factor (factor_tree x.0)) x.1.now)
-        (λ e. Stops (want.factor (suc levels) ∷ []) (symbol_token symbols.Tilde tilde ∷ given.now) e) }
+        (λ x. ReadsParts (want.factor (suc levels) ∷ []) (suc levels) (symbol_token symbols.Tilde tilde ∷ given.now) (print_factor (factor_tree x.0)) (depth_of_factor (factor_tree x.0)) x.1.now)
+        (λ e. StopsAt (want.factor (suc levels) ∷ []) (symbol_token symbols.Tilde tilde ∷ given.now) e) }
 {
     let (negated, rest) = factor(alloc, given, levels)?;
     let boxed = Box::new(alloc, negated)?;
@@ -224,8 +224,8 @@ fn set(
     levels: usize,
 ) -> Result<(Factor, &[Token]), Stop>
     ensures { MatchResult result
-        (λ x. Reads (want.factor (suc levels) ∷ []) (suc levels) (symbol_token symbols.OpenBrace opening ∷ given.now) (print_factor (factor_tree x.0)) (depth_of_factor (factor_tree x.0)) x.1.now)
-        (λ e. Stops (want.factor (suc levels) ∷ []) (symbol_token symbols.OpenBrace opening ∷ given.now) e) }
+        (λ x. ReadsParts (want.factor (suc levels) ∷ []) (suc levels) (symbol_token symbols.OpenBrace opening ∷ given.now) (print_factor (factor_tree x.0)) (depth_of_factor (factor_tree x.0)) x.1.now)
+        (λ e. StopsAt (want.factor (suc levels) ∷ []) (symbol_token symbols.OpenBrace opening ∷ given.now) e) }
 {
     if let Some((closing, rest)) = symbol(given, Symbol::CloseBrace) {
         let empty = Set {
@@ -250,8 +250,8 @@ fn set(
 #[cycle(expression)]
 fn elements(alloc: Global, given: &[Token], levels: usize) -> Result<(Elements, &[Token]), Stop>
     ensures { MatchResult result
-        (λ x. Reads (element_parts levels ++ want.elements levels ∷ []) levels given.now (print_elements (elements_tree x.0)) (depth_of_elements (elements_tree x.0)) x.1.now)
-        (λ e. Stops (element_parts levels ++ want.elements levels ∷ []) given.now e) }
+        (λ x. ReadsParts (element_parts levels ++ want.elements levels ∷ []) levels given.now (print_elements (elements_tree x.0)) (depth_of_elements (elements_tree x.0)) x.1.now)
+        (λ e. StopsAt (element_parts levels ++ want.elements levels ∷ []) given.now e) }
 {
     let (first, rest) = element(alloc, given, levels)?;
     let (next, rest) = more_elements(alloc, rest, levels)?;
@@ -267,10 +267,10 @@ fn more_elements(
     levels: usize,
 ) -> Result<(Vec<NextElement>, &[Token]), Stop>
     ensures { MatchResult result
-        (λ x. Reads (want.elements levels ∷ []) levels given.now
+        (λ x. ReadsParts (want.elements levels ∷ []) levels given.now
         (print_more_elements (more_elements_list x.0.items))
         (depth_of_more_elements (more_elements_list x.0.items)) x.1.now)
-        (λ e. Stops (want.elements levels ∷ []) given.now e) }
+        (λ e. StopsAt (want.elements levels ∷ []) given.now e) }
 {
     let mut items = Vec::new(alloc);
     let mut rest = given;
@@ -286,8 +286,8 @@ fn more_elements(
 #[cycle(expression)]
 fn element(alloc: Global, given: &[Token], levels: usize) -> Result<(Element, &[Token]), Stop>
     ensures { MatchResult result
-        (λ x. Reads (element_parts levels) levels given.now (print_element (element_tree x.0)) (depth_of_element (element_tree x.0)) x.1.now)
-        (λ e. Stops (element_parts levels) given.now e) }
+        (λ x. ReadsParts (element_parts levels) levels given.now (print_element (element_tree x.0)) (depth_of_element (element_tree x.0)) x.1.now)
+        (λ e. StopsAt (element_parts levels) given.now e) }
 {
     let (first, rest) = expr(alloc, given, levels)?;
     let (upper, rest) = upper(alloc, rest, levels)?;
@@ -298,8 +298,8 @@ fn element(alloc: Global, given: &[Token], levels: usize) -> Result<(Element, &[
 #[cycle(expression)]
 fn upper(alloc: Global, given: &[Token], levels: usize) -> Result<(Option<Upper>, &[Token]), Stop>
     ensures { MatchResult result
-        (λ x. Reads (want.some_upper levels ∷ []) levels given.now (print_upper (upper_option x.0)) (depth_of_upper (upper_option x.0)) x.1.now)
-        (λ e. Stops (want.some_upper levels ∷ []) given.now e) }
+        (λ x. ReadsParts (want.some_upper levels ∷ []) levels given.now (print_upper (upper_option x.0)) (depth_of_upper (upper_option x.0)) x.1.now)
+        (λ e. StopsAt (want.some_upper levels ∷ []) given.now e) }
 {
     let Some((dots, rest)) = symbol(given, Symbol::DotDot) else {
         return Ok((None, given));
@@ -316,10 +316,10 @@ pub fn selectors(
     levels: usize,
 ) -> Result<(Vec<Selector>, &[Token]), Stop>
     ensures { MatchResult result
-        (λ x. Reads (want.selectors levels ∷ []) levels given.now
+        (λ x. ReadsParts (want.selectors levels ∷ []) levels given.now
         (print_selectors (selectors_list x.0.items))
         (depth_of_selectors (selectors_list x.0.items)) x.1.now)
-        (λ e. Stops (want.selectors levels ∷ []) given.now e) }
+        (λ e. StopsAt (want.selectors levels ∷ []) given.now e) }
 {
     let mut items = Vec::new(alloc);
     let mut rest = given;
@@ -345,7 +345,7 @@ fn selector(
         (λ x. ReadsSome (want.selectors levels) levels given.now
         (print_selector (selector_tree x.0)) (depth_of_selector (selector_tree x.0)) x.1.now
         × (length x.1.now < length given.now)))
-        (λ e. Stops (want.selectors levels ∷ []) given.now e) }
+        (λ e. StopsAt (want.selectors levels ∷ []) given.now e) }
 {
     if let Some((period, rest)) = symbol(given, Symbol::Period) {
         let (name, rest) = need_ident(alloc, rest)?;
@@ -381,15 +381,15 @@ fn index(
         (symbol_token symbols.OpenBracket opening ∷ given.now) (print_selector (selector_tree x.0))
         (depth_of_selector (selector_tree x.0)) x.1.now
         × (length x.1.now < suc (length given.now)))
-        (λ e. Stops (want.selectors (suc levels) ∷ [])
+        (λ e. StopsAt (want.selectors (suc levels) ∷ [])
         (symbol_token symbols.OpenBracket opening ∷ given.now) e) }
 {
-    let (places, rest) = exprs(alloc, given, levels)?;
+    let (indices, rest) = exprs(alloc, given, levels)?;
     let (closing, rest) = need_symbol(rest, Symbol::CloseBracket)?;
-    let boxed = Box::new(alloc, places)?;
+    let boxed = Box::new(alloc, indices)?;
     let index = Selector::Index {
         opening,
-        places: boxed,
+        indices: boxed,
         closing,
     };
     Ok((index, rest))
@@ -408,7 +408,7 @@ fn call(
         (symbol_token symbols.OpenParen opening ∷ given.now) (print_selector (selector_tree x.0))
         (depth_of_selector (selector_tree x.0)) x.1.now
         × (length x.1.now < suc (length given.now)))
-        (λ e. Stops (want.selectors (suc levels) ∷ [])
+        (λ e. StopsAt (want.selectors (suc levels) ∷ [])
         (symbol_token symbols.OpenParen opening ∷ given.now) e) }
 {
     if let Some((closing, rest)) = symbol(given, Symbol::CloseParen) {
@@ -434,8 +434,8 @@ fn call(
 #[cycle(expression)]
 pub fn exprs(alloc: Global, given: &[Token], levels: usize) -> Result<(Exprs, &[Token]), Stop>
     ensures { MatchResult result
-        (λ x. Reads (exprs_parts levels) levels given.now (print_exprs (exprs_tree x.0)) (depth_of_exprs (exprs_tree x.0)) x.1.now)
-        (λ e. Stops (exprs_parts levels) given.now e) }
+        (λ x. ReadsParts (exprs_parts levels) levels given.now (print_exprs (exprs_tree x.0)) (depth_of_exprs (exprs_tree x.0)) x.1.now)
+        (λ e. StopsAt (exprs_parts levels) given.now e) }
 {
     let (first, rest) = expr(alloc, given, levels)?;
     let (next, rest) = more_exprs(alloc, rest, levels)?;
@@ -451,10 +451,10 @@ fn more_exprs(
     levels: usize,
 ) -> Result<(Vec<NextExpr>, &[Token]), Stop>
     ensures { MatchResult result
-        (λ x. Reads (want.exprs levels ∷ []) levels given.now
+        (λ x. ReadsParts (want.exprs levels ∷ []) levels given.now
         (print_more_exprs (more_exprs_list x.0.items))
         (depth_of_more_exprs (more_exprs_list x.0.items)) x.1.now)
-        (λ e. Stops (want.exprs levels ∷ []) given.now e) }
+        (λ e. StopsAt (want.exprs levels ∷ []) given.now e) }
 {
     let mut items = Vec::new(alloc);
     let mut rest = given;

@@ -9,7 +9,7 @@ ghost use Rattle.oberon_tree.specs.Levels.{depth_of_some, depth_of_each, depth_o
 ghost use Rattle.oberon_tree.specs.Memory.{formal_type_tree, section_tree, next_section_tree, sections_tree, formals_tree};
 ghost use Rattle.oberon_parse.specs.Expected as want;
 ghost use Rattle.oberon_parse.specs.Machine.{formal_type_parts, section_parts};
-ghost use Rattle.oberon_parse.specs.Reads.{Reads, Stops};
+ghost use Rattle.oberon_parse.specs.Reading.{ReadsParts, StopsAt};
 
 use crate::name::{idents, qualident};
 use crate::read::{need_symbol, need_word, one_less, symbol, word};
@@ -26,10 +26,10 @@ pub fn formals(
     levels: usize,
 ) -> Result<(Option<Formals>, &[Token]), Stop>
     ensures { MatchResult result
-        (λ x. Reads (want.some_formals levels ∷ []) levels given.now
+        (λ x. ReadsParts (want.some_formals levels ∷ []) levels given.now
         (print_some print_formals (option_map formals_tree x.0))
         (depth_of_some depth_of_formals (option_map formals_tree x.0)) x.1.now)
-        (λ e. Stops (want.some_formals levels ∷ []) given.now e) }
+        (λ e. StopsAt (want.some_formals levels ∷ []) given.now e) }
 {
     let Some((opening, rest)) = symbol(given, Symbol::OpenParen) else {
         return Ok((None, given));
@@ -53,11 +53,11 @@ fn rest_of_formals(
     levels: usize,
 ) -> Result<((Option<Sections>, Span), &[Token]), Stop>
     ensures { MatchResult result
-        (λ x. Reads (want.rest_of_formals levels ∷ []) levels given.now
+        (λ x. ReadsParts (want.rest_of_formals levels ∷ []) levels given.now
         (λ (rest : List AnyToken). print_some print_sections (option_map sections_tree x.0.0)
         (symbol_token symbols.CloseParen x.0.1 ∷ rest))
         (depth_of_some depth_of_sections (option_map sections_tree x.0.0)) x.1.now)
-        (λ e. Stops (want.rest_of_formals levels ∷ []) given.now e) }
+        (λ e. StopsAt (want.rest_of_formals levels ∷ []) given.now e) }
 {
     if let Some((closing, rest)) = symbol(given, Symbol::CloseParen) {
         return Ok(((None, closing), rest));
@@ -76,10 +76,10 @@ fn more_sections(
     levels: usize,
 ) -> Result<(Vec<NextSection>, &[Token]), Stop>
     ensures { MatchResult result
-        (λ x. Reads (want.sections levels ∷ []) levels given.now
+        (λ x. ReadsParts (want.sections levels ∷ []) levels given.now
         (print_each print_next_section (map next_section_tree x.0.items))
         (depth_of_each depth_of_next_section (map next_section_tree x.0.items)) x.1.now)
-        (λ e. Stops (want.sections levels ∷ []) given.now e) }
+        (λ e. StopsAt (want.sections levels ∷ []) given.now e) }
 {
     let mut items = Vec::new(alloc);
     let mut rest = given;
@@ -94,9 +94,9 @@ fn more_sections(
 /// `section = [VAR] ident {"," ident} ":" {ARRAY OF} qualident`.
 fn section(alloc: Global, given: &[Token], levels: usize) -> Result<(Section, &[Token]), Stop>
     ensures { MatchResult result
-        (λ x. Reads (section_parts levels) levels given.now (print_section (section_tree x.0))
+        (λ x. ReadsParts (section_parts levels) levels given.now (print_section (section_tree x.0))
         (depth_of_section (section_tree x.0)) x.1.now)
-        (λ e. Stops (section_parts levels) given.now e) }
+        (λ e. StopsAt (section_parts levels) given.now e) }
 {
     let (by_var, rest) = by_var(given);
     let (names, rest) = idents(alloc, rest)?;
@@ -113,10 +113,10 @@ fn section(alloc: Global, given: &[Token], levels: usize) -> Result<(Section, &[
 
 /// `[VAR]`.
 fn by_var(given: &[Token]) -> (Option<Span>, &[Token])
-    ensures { Reads (want.some_by_var ∷ []) 0 given.now (print_some print_by_var result.0) 0 result.1.now }
+    ensures { ReadsParts (want.some_by_var ∷ []) 0 given.now (print_some print_by_var result.0) 0 result.1.now }
 {
     match word(given, Word::Var) {
-        Some((place, rest)) => (Some(place), rest),
+        Some((span, rest)) => (Some(span), rest),
         None => (None, given),
     }
 }
@@ -128,9 +128,9 @@ fn formal_type(
     levels: usize,
 ) -> Result<(FormalType, &[Token]), Stop>
     ensures { MatchResult result
-        (λ x. Reads (formal_type_parts levels) levels given.now
+        (λ x. ReadsParts (formal_type_parts levels) levels given.now
         (print_formal_type (formal_type_tree x.0)) (depth_of_formal_type (formal_type_tree x.0)) x.1.now)
-        (λ e. Stops (formal_type_parts levels) given.now e) }
+        (λ e. StopsAt (formal_type_parts levels) given.now e) }
 {
     let (opens, rest) = opens(alloc, given, levels)?;
     let (name, rest) = qualident(alloc, rest)?;
@@ -140,17 +140,17 @@ fn formal_type(
 /// `{ARRAY OF}`. Each ARRAY opens a level that holds to the end of the type.
 fn opens(alloc: Global, given: &[Token], levels: usize) -> Result<(Vec<OpenArray>, &[Token]), Stop>
     ensures { MatchResult result
-        (λ x. Reads (want.opens levels ∷ []) levels given.now (print_each print_open_array x.0.items)
+        (λ x. ReadsParts (want.opens levels ∷ []) levels given.now (print_each print_open_array x.0.items)
         (length x.0.items) x.1.now)
-        (λ e. Stops (want.opens levels ∷ []) given.now e) }
+        (λ e. StopsAt (want.opens levels ∷ []) given.now e) }
 {
     let mut items = Vec::new(alloc);
     let mut rest = given;
     let mut left = levels;
-    while let Some((place, after)) = word(rest, Word::Array) {
+    while let Some((span, after)) = word(rest, Word::Array) {
         let inner = one_less(rest, left)?;
         let (of, after) = need_word(after, Word::Of)?;
-        items.push(OpenArray { word: place, of })?;
+        items.push(OpenArray { word: span, of })?;
         rest = after;
         left = inner;
     }
@@ -160,8 +160,8 @@ fn opens(alloc: Global, given: &[Token], levels: usize) -> Result<(Vec<OpenArray
 /// `[":" qualident]`.
 fn result_type(alloc: Global, given: &[Token]) -> Result<(Option<ResultType>, &[Token]), Stop>
     ensures { MatchResult result
-        (λ x. Reads (want.some_result ∷ []) 0 given.now (print_some print_result_type x.0) 0 x.1.now)
-        (λ e. Stops (want.some_result ∷ []) given.now e) }
+        (λ x. ReadsParts (want.some_result ∷ []) 0 given.now (print_some print_result_type x.0) 0 x.1.now)
+        (λ e. StopsAt (want.some_result ∷ []) given.now e) }
 {
     let Some((colon, rest)) = symbol(given, Symbol::Colon) else {
         return Ok((None, given));

@@ -4,7 +4,7 @@ ghost use Rattle.oberon_tree.specs.Print.{print_some, print_each, print_value, p
 ghost use Rattle.oberon_parse.specs.Expected as want;
 ghost use Rattle.oberon_parse.specs.Tests.{is_literal, is_ident, next_is};
 ghost use Rattle.oberon_parse.specs.Machine.{label_parts};
-ghost use Rattle.oberon_parse.specs.Reads.{Reads, FirstValue, Stops, StopsValue};
+ghost use Rattle.oberon_parse.specs.Reading.{ReadsParts, FirstValue, StopsAt, StopsValue};
 
 use crate::name::member;
 use crate::read::{ident, label_literal, symbol};
@@ -35,8 +35,8 @@ pub fn first_value(alloc: Global, given: &[Token]) -> Result<Option<(LabelValue,
 /// `value = integer | string | qualident`.
 fn value(alloc: Global, given: &[Token]) -> Result<(LabelValue, &[Token]), Stop>
     ensures { MatchResult result
-        (λ x. Reads (want.value ∷ []) 0 given.now (print_value x.0) 0 x.1.now)
-        (λ e. Stops (want.value ∷ []) given.now e) }
+        (λ x. ReadsParts (want.value ∷ []) 0 given.now (print_value x.0) 0 x.1.now)
+        (λ e. StopsAt (want.value ∷ []) given.now e) }
 {
     match first_value(alloc, given)? {
         Some((found, rest)) => Ok((found, rest)),
@@ -47,8 +47,8 @@ fn value(alloc: Global, given: &[Token]) -> Result<(LabelValue, &[Token]), Stop>
 /// `[".." value]`.
 pub fn label_upper(alloc: Global, given: &[Token]) -> Result<(Option<LabelUpper>, &[Token]), Stop>
     ensures { MatchResult result
-        (λ x. Reads (want.some_label_upper ∷ []) 0 given.now (print_some print_label_upper x.0) 0 x.1.now)
-        (λ e. Stops (want.some_label_upper ∷ []) given.now e) }
+        (λ x. ReadsParts (want.some_label_upper ∷ []) 0 given.now (print_some print_label_upper x.0) 0 x.1.now)
+        (λ e. StopsAt (want.some_label_upper ∷ []) given.now e) }
 {
     let Some((dots, rest)) = symbol(given, Symbol::DotDot) else {
         return Ok((None, given));
@@ -60,8 +60,8 @@ pub fn label_upper(alloc: Global, given: &[Token]) -> Result<(Option<LabelUpper>
 /// `label = value [".." value]`.
 fn label(alloc: Global, given: &[Token]) -> Result<(Label, &[Token]), Stop>
     ensures { MatchResult result
-        (λ x. Reads label_parts 0 given.now (print_label x.0) 0 x.1.now)
-        (λ e. Stops label_parts given.now e) }
+        (λ x. ReadsParts label_parts 0 given.now (print_label x.0) 0 x.1.now)
+        (λ e. StopsAt label_parts given.now e) }
 {
     let (first, rest) = value(alloc, given)?;
     let (upper, rest) = label_upper(alloc, rest)?;
@@ -71,8 +71,8 @@ fn label(alloc: Global, given: &[Token]) -> Result<(Label, &[Token]), Stop>
 /// `{"," label}`.
 pub fn more_labels(alloc: Global, given: &[Token]) -> Result<(Vec<NextLabel>, &[Token]), Stop>
     ensures { MatchResult result
-        (λ x. Reads (want.labels ∷ []) 0 given.now (print_each print_next_label x.0.items) 0 x.1.now)
-        (λ e. Stops (want.labels ∷ []) given.now e) }
+        (λ x. ReadsParts (want.labels ∷ []) 0 given.now (print_each print_next_label x.0.items) 0 x.1.now)
+        (λ e. StopsAt (want.labels ∷ []) given.now e) }
 {
     let mut items = Vec::new(alloc);
     let mut rest = given;

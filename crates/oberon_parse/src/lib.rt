@@ -1,4 +1,8 @@
-//! The parser of Oberon-07 modules: the tree of a list of tokens, or its first bad token.
+//! The parser of Oberon-07 modules (The Programming Language Oberon-07, sections 4 to 11): the tree of a list of
+//! tokens, or its first bad token. It stands on `oberon_scan` for tokens and `oberon_tree` for trees, and may know
+//! the grammar and nothing of texts nor of the server. Begin reading at `specs/Sentence.antt`, which says what the
+//! public call promises, and at `whole.rt`, where the call stands; the machine that the private functions are
+//! proved by is in `specs/Machine.antt`.
 #![tactic(auto)]
 
 mod declaration;
@@ -11,10 +15,8 @@ mod procedure;
 mod read;
 mod statement;
 mod stop;
-#[cfg(test)]
-mod tests;
 mod top;
 mod types;
 mod whole;
 
-pub use whole::{LEVELS, ParseRefusal, parse};
+pub use whole::{ParseRefusal, parse};

@@ -7,7 +7,7 @@ ghost use Rattle.oberon_tree.specs.Levels.{depth_of_some, depth_of_each, depth_o
 ghost use Rattle.oberon_tree.specs.Memory.{local_constant_tree, local_constants_tree, local_variable_tree, local_variables_tree, locals_tree};
 ghost use Rattle.oberon_parse.specs.Expected as want;
 ghost use Rattle.oberon_parse.specs.Machine.{locals_parts};
-ghost use Rattle.oberon_parse.specs.Reads.{Reads, ReadsSome, Stops};
+ghost use Rattle.oberon_parse.specs.Reading.{ReadsParts, ReadsSome, StopsAt};
 
 use crate::expression::expr;
 use crate::name::more_idents;
@@ -23,9 +23,9 @@ use std::alloc::Global;
 /// `locals = [localconstants] [localvariables]`.
 pub fn locals(alloc: Global, given: &[Token], levels: usize) -> Result<(Locals, &[Token]), Stop>
     ensures { MatchResult result
-        (λ x. Reads (locals_parts levels) levels given.now (print_locals (locals_tree x.0))
+        (λ x. ReadsParts (locals_parts levels) levels given.now (print_locals (locals_tree x.0))
         (depth_of_locals (locals_tree x.0)) x.1.now)
-        (λ e. Stops (locals_parts levels) given.now e) }
+        (λ e. StopsAt (locals_parts levels) given.now e) }
 {
     let (constants, rest) = local_constants(alloc, given, levels)?;
     let (variables, rest) = local_variables(alloc, rest, levels)?;
@@ -43,16 +43,16 @@ fn local_constants(
     levels: usize,
 ) -> Result<(Option<LocalConstants>, &[Token]), Stop>
     ensures { MatchResult result
-        (λ x. Reads (want.some_local_constants levels ∷ []) levels given.now
+        (λ x. ReadsParts (want.some_local_constants levels ∷ []) levels given.now
         (print_some print_local_constants (option_map local_constants_tree x.0))
         (depth_of_some depth_of_local_constants (option_map local_constants_tree x.0)) x.1.now)
-        (λ e. Stops (want.some_local_constants levels ∷ []) given.now e) }
+        (λ e. StopsAt (want.some_local_constants levels ∷ []) given.now e) }
 {
-    let Some((place, rest)) = word(given, Word::Const) else {
+    let Some((span, rest)) = word(given, Word::Const) else {
         return Ok((None, given));
     };
     let (items, rest) = more_local_constants(alloc, rest, levels)?;
-    Ok((Some(LocalConstants { word: place, items }), rest))
+    Ok((Some(LocalConstants { word: span, items }), rest))
 }
 
 fn more_local_constants(
@@ -61,10 +61,10 @@ fn more_local_constants(
     levels: usize,
 ) -> Result<(Vec<LocalConstant>, &[Token]), Stop>
     ensures { MatchResult result
-        (λ x. Reads (want.local_constants levels ∷ []) levels given.now
+        (λ x. ReadsParts (want.local_constants levels ∷ []) levels given.now
         (print_each print_local_constant (map local_constant_tree x.0.items))
         (depth_of_each depth_of_local_constant (map local_constant_tree x.0.items)) x.1.now)
-        (λ e. Stops (want.local_constants levels ∷ []) given.now e) }
+        (λ e. StopsAt (want.local_constants levels ∷ []) given.now e) }
 {
     let mut items = Vec::new(alloc);
     let mut rest = given;
@@ -87,7 +87,7 @@ fn local_constant(
         (λ x. ReadsSome (want.local_constants levels) levels (ident_token name ∷ given.now)
         (print_local_constant (local_constant_tree x.0)) (depth_of_local_constant (local_constant_tree x.0)) x.1.now
         × (length x.1.now ≤ length given.now))
-        (λ e. Stops (want.local_constants levels ∷ []) (ident_token name ∷ given.now) e) }
+        (λ e. StopsAt (want.local_constants levels ∷ []) (ident_token name ∷ given.now) e) }
 {
     let (equal, rest) = need_symbol(given, Symbol::Equal)?;
     let (value, rest) = expr(alloc, rest, levels)?;
@@ -108,16 +108,16 @@ fn local_variables(
     levels: usize,
 ) -> Result<(Option<LocalVariables>, &[Token]), Stop>
     ensures { MatchResult result
-        (λ x. Reads (want.some_local_variables levels ∷ []) levels given.now
+        (λ x. ReadsParts (want.some_local_variables levels ∷ []) levels given.now
         (print_some print_local_variables (option_map local_variables_tree x.0))
         (depth_of_some depth_of_local_variables (option_map local_variables_tree x.0)) x.1.now)
-        (λ e. Stops (want.some_local_variables levels ∷ []) given.now e) }
+        (λ e. StopsAt (want.some_local_variables levels ∷ []) given.now e) }
 {
-    let Some((place, rest)) = word(given, Word::Var) else {
+    let Some((span, rest)) = word(given, Word::Var) else {
         return Ok((None, given));
     };
     let (items, rest) = more_local_variables(alloc, rest, levels)?;
-    Ok((Some(LocalVariables { word: place, items }), rest))
+    Ok((Some(LocalVariables { word: span, items }), rest))
 }
 
 fn more_local_variables(
@@ -126,10 +126,10 @@ fn more_local_variables(
     levels: usize,
 ) -> Result<(Vec<LocalVariable>, &[Token]), Stop>
     ensures { MatchResult result
-        (λ x. Reads (want.local_variables levels ∷ []) levels given.now
+        (λ x. ReadsParts (want.local_variables levels ∷ []) levels given.now
         (print_each print_local_variable (map local_variable_tree x.0.items))
         (depth_of_each depth_of_local_variable (map local_variable_tree x.0.items)) x.1.now)
-        (λ e. Stops (want.local_variables levels ∷ []) given.now e) }
+        (λ e. StopsAt (want.local_variables levels ∷ []) given.now e) }
 {
     let mut items = Vec::new(alloc);
     let mut rest = given;
@@ -152,7 +152,7 @@ fn local_variable(
         (λ x. ReadsSome (want.local_variables levels) levels (ident_token name ∷ given.now)
         (print_local_variable (local_variable_tree x.0)) (depth_of_local_variable (local_variable_tree x.0)) x.1.now
         × (length x.1.now ≤ length given.now))
-        (λ e. Stops (want.local_variables levels ∷ []) (ident_token name ∷ given.now) e) }
+        (λ e. StopsAt (want.local_variables levels ∷ []) (ident_token name ∷ given.now) e) }
 {
     let (next, rest) = more_idents(alloc, given)?;
     let (colon, rest) = need_symbol(rest, Symbol::Colon)?;

@@ -4,7 +4,7 @@ ghost use Rattle.oberon_tree.specs.Print.{print_some, print_each, print_member, 
 ghost use Rattle.oberon_tree.specs.Memory.{ident_defs_tree, idents_tree};
 ghost use Rattle.oberon_parse.specs.Expected as want;
 ghost use Rattle.oberon_parse.specs.Machine.{qualident_parts, ident_def_parts, ident_defs_parts, idents_parts};
-ghost use Rattle.oberon_parse.specs.Reads.{Reads, Stops};
+ghost use Rattle.oberon_parse.specs.Reading.{ReadsParts, StopsAt};
 
 use crate::read::{need_ident, symbol};
 use crate::stop::Stop;
@@ -16,8 +16,8 @@ use std::alloc::Global;
 /// `["." ident]`.
 pub fn member(alloc: Global, given: &[Token]) -> Result<(Option<Member>, &[Token]), Stop>
     ensures { MatchResult result
-        (λ x. Reads (want.some_member ∷ []) 0 given.now (print_some print_member x.0) 0 x.1.now)
-        (λ e. Stops (want.some_member ∷ []) given.now e) }
+        (λ x. ReadsParts (want.some_member ∷ []) 0 given.now (print_some print_member x.0) 0 x.1.now)
+        (λ e. StopsAt (want.some_member ∷ []) given.now e) }
 {
     let Some((period, rest)) = symbol(given, Symbol::Period) else {
         return Ok((None, given));
@@ -29,8 +29,8 @@ pub fn member(alloc: Global, given: &[Token]) -> Result<(Option<Member>, &[Token
 /// `qualident = ident ["." ident]`.
 pub fn qualident(alloc: Global, given: &[Token]) -> Result<(Qualident, &[Token]), Stop>
     ensures { MatchResult result
-        (λ x. Reads qualident_parts 0 given.now (print_qualident x.0) 0 x.1.now)
-        (λ e. Stops qualident_parts given.now e) }
+        (λ x. ReadsParts qualident_parts 0 given.now (print_qualident x.0) 0 x.1.now)
+        (λ e. StopsAt qualident_parts given.now e) }
 {
     let (first, rest) = need_ident(alloc, given)?;
     let (member, rest) = member(alloc, rest)?;
@@ -39,7 +39,7 @@ pub fn qualident(alloc: Global, given: &[Token]) -> Result<(Qualident, &[Token])
 
 /// `["*"]`.
 pub fn mark(given: &[Token]) -> (Option<Span>, &[Token])
-    ensures { Reads (want.some_mark ∷ []) 0 given.now (print_some print_mark result.0) 0 result.1.now }
+    ensures { ReadsParts (want.some_mark ∷ []) 0 given.now (print_some print_mark result.0) 0 result.1.now }
 {
     match symbol(given, Symbol::Star) {
         Some((span, rest)) => (Some(span), rest),
@@ -50,8 +50,8 @@ pub fn mark(given: &[Token]) -> (Option<Span>, &[Token])
 /// `identdef = ident ["*"]`.
 pub fn ident_def(alloc: Global, given: &[Token]) -> Result<(IdentDef, &[Token]), Stop>
     ensures { MatchResult result
-        (λ x. Reads ident_def_parts 0 given.now (print_ident_def x.0) 0 x.1.now)
-        (λ e. Stops ident_def_parts given.now e) }
+        (λ x. ReadsParts ident_def_parts 0 given.now (print_ident_def x.0) 0 x.1.now)
+        (λ e. StopsAt ident_def_parts given.now e) }
 {
     let (name, rest) = need_ident(alloc, given)?;
     let (export, rest) = mark(rest);
@@ -64,9 +64,9 @@ pub fn more_ident_defs(
     given: &[Token],
 ) -> Result<(Vec<NextIdentDef>, &[Token]), Stop>
     ensures { MatchResult result
-        (λ x. Reads (want.ident_defs ∷ []) 0 given.now
+        (λ x. ReadsParts (want.ident_defs ∷ []) 0 given.now
         (print_each print_next_ident_def x.0.items) 0 x.1.now)
-        (λ e. Stops (want.ident_defs ∷ []) given.now e) }
+        (λ e. StopsAt (want.ident_defs ∷ []) given.now e) }
 {
     let mut items = Vec::new(alloc);
     let mut rest = given;
@@ -81,8 +81,8 @@ pub fn more_ident_defs(
 /// `identlist = identdef {"," identdef}`.
 pub fn ident_defs(alloc: Global, given: &[Token]) -> Result<(IdentDefs, &[Token]), Stop>
     ensures { MatchResult result
-        (λ x. Reads ident_defs_parts 0 given.now (print_ident_defs (ident_defs_tree x.0)) 0 x.1.now)
-        (λ e. Stops ident_defs_parts given.now e) }
+        (λ x. ReadsParts ident_defs_parts 0 given.now (print_ident_defs (ident_defs_tree x.0)) 0 x.1.now)
+        (λ e. StopsAt ident_defs_parts given.now e) }
 {
     let (first, rest) = ident_def(alloc, given)?;
     let (rest_names, rest) = more_ident_defs(alloc, rest)?;
@@ -96,9 +96,9 @@ pub fn ident_defs(alloc: Global, given: &[Token]) -> Result<(IdentDefs, &[Token]
 /// `{"," ident}`.
 pub fn more_idents(alloc: Global, given: &[Token]) -> Result<(Vec<NextIdent>, &[Token]), Stop>
     ensures { MatchResult result
-        (λ x. Reads (want.idents ∷ []) 0 given.now
+        (λ x. ReadsParts (want.idents ∷ []) 0 given.now
         (print_each print_next_ident x.0.items) 0 x.1.now)
-        (λ e. Stops (want.idents ∷ []) given.now e) }
+        (λ e. StopsAt (want.idents ∷ []) given.now e) }
 {
     let mut items = Vec::new(alloc);
     let mut rest = given;
@@ -113,8 +113,8 @@ pub fn more_idents(alloc: Global, given: &[Token]) -> Result<(Vec<NextIdent>, &[
 /// `ident {"," ident}`.
 pub fn idents(alloc: Global, given: &[Token]) -> Result<(Idents, &[Token]), Stop>
     ensures { MatchResult result
-        (λ x. Reads idents_parts 0 given.now (print_idents (idents_tree x.0)) 0 x.1.now)
-        (λ e. Stops idents_parts given.now e) }
+        (λ x. ReadsParts idents_parts 0 given.now (print_idents (idents_tree x.0)) 0 x.1.now)
+        (λ e. StopsAt idents_parts given.now e) }
 {
     let (first, rest) = need_ident(alloc, given)?;
     let (rest_names, rest) = more_idents(alloc, rest)?;

@@ -10,7 +10,7 @@ ghost use Rattle.oberon_tree.specs.Levels.{depth_of_some, depth_of_each, depth_o
 ghost use Rattle.oberon_tree.specs.Memory.{formals_tree, locals_tree, body_tree, return_tree, procedure_item_tree};
 ghost use Rattle.oberon_parse.specs.Expected as want;
 ghost use Rattle.oberon_parse.specs.Machine.{ident_def_parts, locals_parts};
-ghost use Rattle.oberon_parse.specs.Reads.{Reads, ReadsSome, Stops};
+ghost use Rattle.oberon_parse.specs.Reading.{ReadsParts, ReadsSome, StopsAt};
 
 use crate::expression::expr;
 use crate::formal::formals;
@@ -37,16 +37,16 @@ pub fn procedures(
     levels: usize,
 ) -> Result<(Vec<ProcedureItem>, &[Token]), Stop>
     ensures { MatchResult result
-        (λ x. Reads (want.procedures levels ∷ []) levels given.now
+        (λ x. ReadsParts (want.procedures levels ∷ []) levels given.now
         (print_each print_procedure_item (map procedure_item_tree x.0.items))
         (depth_of_each depth_of_procedure_item (map procedure_item_tree x.0.items)) x.1.now)
-        (λ e. Stops (want.procedures levels ∷ []) given.now e) }
+        (λ e. StopsAt (want.procedures levels ∷ []) given.now e) }
 {
     let mut items = Vec::new(alloc);
     let mut rest = given;
-    while let Some((place, after)) = word(rest, Word::Procedure) {
+    while let Some((span, after)) = word(rest, Word::Procedure) {
         let inner = one_less(rest, levels)?;
-        let (item, after) = procedure(alloc, place, after, inner)?;
+        let (item, after) = procedure(alloc, span, after, inner)?;
         items.push(item)?;
         rest = after;
     }
@@ -56,17 +56,17 @@ pub fn procedures(
 /// What stands behind PROCEDURE, with the `;` behind the procedure.
 fn procedure(
     alloc: Global,
-    place: Span,
+    span: Span,
     given: &[Token],
     levels: usize,
 ) -> Result<(ProcedureItem, &[Token]), Stop>
     ensures { MatchResult result
         (λ x. ReadsSome (want.procedures (suc levels)) (suc levels)
-        (word_token words.Procedure place ∷ given.now)
+        (word_token words.Procedure span ∷ given.now)
         (print_procedure_item (procedure_item_tree x.0))
         (depth_of_procedure_item (procedure_item_tree x.0)) x.1.now
         × (length x.1.now ≤ length given.now))
-        (λ e. Stops (want.procedures (suc levels) ∷ []) (word_token words.Procedure place ∷ given.now) e) }
+        (λ e. StopsAt (want.procedures (suc levels) ∷ []) (word_token words.Procedure span ∷ given.now) e) }
 {
     let (found, rest) = heading(alloc, given, levels)?;
     let (behind, rest) = rest_of_procedure(alloc, rest, levels)?;
@@ -74,7 +74,7 @@ fn procedure(
     let (name, formals, semicolon) = found;
     let (locals, body, returns, end, end_name) = behind;
     let procedure = Procedure {
-        word: place,
+        word: span,
         name,
         formals,
         semicolon,
@@ -94,13 +94,13 @@ fn procedure(
 /// `identdef [formals] ";"`.
 fn heading(alloc: Global, given: &[Token], levels: usize) -> Result<(Heading, &[Token]), Stop>
     ensures { MatchResult result
-        (λ x. Reads (ident_def_parts ++ want.some_formals levels ∷ want.symbol symbols.Semicolon ∷ []) levels
+        (λ x. ReadsParts (ident_def_parts ++ want.some_formals levels ∷ want.symbol symbols.Semicolon ∷ []) levels
         given.now
         (λ (rest : List AnyToken). print_ident_def x.0.0
         (print_some print_formals (option_map formals_tree x.0.1)
         (symbol_token symbols.Semicolon x.0.2 ∷ rest)))
         (depth_of_some depth_of_formals (option_map formals_tree x.0.1)) x.1.now)
-        (λ e. Stops (ident_def_parts ++ want.some_formals levels ∷ want.symbol symbols.Semicolon ∷ [])
+        (λ e. StopsAt (ident_def_parts ++ want.some_formals levels ∷ want.symbol symbols.Semicolon ∷ [])
         given.now e) }
 {
     let (name, rest) = ident_def(alloc, given)?;
@@ -116,7 +116,7 @@ fn rest_of_procedure(
     levels: usize,
 ) -> Result<(Rest, &[Token]), Stop>
     ensures { MatchResult result
-        (λ x. Reads
+        (λ x. ReadsParts
         (locals_parts levels ++ want.some_body levels ∷ want.some_return levels
         ∷ want.word words.End ∷ want.ident ∷ []) levels given.now
         (λ (rest : List AnyToken). print_locals (locals_tree x.0.0)
@@ -126,7 +126,7 @@ fn rest_of_procedure(
         (max (depth_of_locals (locals_tree x.0.0))
         (max (depth_of_some depth_of_body (option_map body_tree x.0.1))
         (depth_of_some depth_of_return (option_map return_tree x.0.2)))) x.1.now)
-        (λ e. Stops
+        (λ e. StopsAt
         (locals_parts levels ++ want.some_body levels ∷ want.some_return levels
         ∷ want.word words.End ∷ want.ident ∷ []) given.now e) }
 {
@@ -141,17 +141,17 @@ fn rest_of_procedure(
 /// `[BEGIN stmts]`.
 pub fn body(alloc: Global, given: &[Token], levels: usize) -> Result<(Option<Body>, &[Token]), Stop>
     ensures { MatchResult result
-        (λ x. Reads (want.some_body levels ∷ []) levels given.now
+        (λ x. ReadsParts (want.some_body levels ∷ []) levels given.now
         (print_some print_body (option_map body_tree x.0))
         (depth_of_some depth_of_body (option_map body_tree x.0)) x.1.now)
-        (λ e. Stops (want.some_body levels ∷ []) given.now e) }
+        (λ e. StopsAt (want.some_body levels ∷ []) given.now e) }
 {
-    let Some((place, rest)) = word(given, Word::Begin) else {
+    let Some((span, rest)) = word(given, Word::Begin) else {
         return Ok((None, given));
     };
     let (statements, rest) = statements(alloc, rest, levels)?;
     let body = Body {
-        word: place,
+        word: span,
         statements,
     };
     Ok((Some(body), rest))
@@ -164,14 +164,14 @@ fn returns(
     levels: usize,
 ) -> Result<(Option<ReturnPart>, &[Token]), Stop>
     ensures { MatchResult result
-        (λ x. Reads (want.some_return levels ∷ []) levels given.now
+        (λ x. ReadsParts (want.some_return levels ∷ []) levels given.now
         (print_some print_return (option_map return_tree x.0))
         (depth_of_some depth_of_return (option_map return_tree x.0)) x.1.now)
-        (λ e. Stops (want.some_return levels ∷ []) given.now e) }
+        (λ e. StopsAt (want.some_return levels ∷ []) given.now e) }
 {
-    let Some((place, rest)) = word(given, Word::Return) else {
+    let Some((span, rest)) = word(given, Word::Return) else {
         return Ok((None, given));
     };
     let (value, rest) = expr(alloc, rest, levels)?;
-    Ok((Some(ReturnPart { word: place, value }), rest))
+    Ok((Some(ReturnPart { word: span, value }), rest))
 }

@@ -5,8 +5,8 @@ ghost use Rattle.oberon_tree.specs.Print.{print_factor, print_value, print_some,
 ghost use Rattle.oberon_tree.specs.Levels.{depth_of_factor};
 ghost use Rattle.oberon_tree.specs.Memory.{factor_tree};
 ghost use Rattle.oberon_parse.specs.Expected as want;
-ghost use Rattle.oberon_parse.specs.Tests.{is_symbol, is_word, is_ident, is_literal, is_constant, rank, next_is};
-ghost use Rattle.oberon_parse.specs.Reads.{Reads, Single, Stops};
+ghost use Rattle.oberon_parse.specs.Tests.{is_symbol, is_word, is_ident, is_literal, is_constant, reach, next_is};
+ghost use Rattle.oberon_parse.specs.Reading.{ReadsParts, Single, StopsAt};
 
 use crate::stop::Stop;
 use ob_text::Span;
@@ -77,7 +77,7 @@ pub fn ident(alloc: Global, given: &[Token]) -> Result<Option<(Ident, &[Token])>
 /// This symbol, which has to stand here.
 pub fn need_symbol(given: &[Token], wanted: Symbol) -> Result<(Span, &[Token]), Stop>
     ensures { MatchResult result (λ x. given.now ≡ symbol_token wanted x.0 ∷ x.1.now)
-        (λ e. Stops (want.symbol wanted ∷ []) given.now e) }
+        (λ e. StopsAt (want.symbol wanted ∷ []) given.now e) }
 {
     match symbol(given, wanted) {
         Some(found) => Ok(found),
@@ -88,7 +88,7 @@ pub fn need_symbol(given: &[Token], wanted: Symbol) -> Result<(Span, &[Token]), 
 /// This reserved word, which has to stand here.
 pub fn need_word(given: &[Token], wanted: Word) -> Result<(Span, &[Token]), Stop>
     ensures { MatchResult result (λ x. given.now ≡ word_token wanted x.0 ∷ x.1.now)
-        (λ e. Stops (want.word wanted ∷ []) given.now e) }
+        (λ e. StopsAt (want.word wanted ∷ []) given.now e) }
 {
     match word(given, wanted) {
         Some(found) => Ok(found),
@@ -99,7 +99,7 @@ pub fn need_word(given: &[Token], wanted: Word) -> Result<(Span, &[Token]), Stop
 /// An identifier, which has to stand here.
 pub fn need_ident(alloc: Global, given: &[Token]) -> Result<(Ident, &[Token]), Stop>
     ensures { MatchResult result (λ x. given.now ≡ ident_token x.0 ∷ x.1.now)
-        (λ e. Stops (want.ident ∷ []) given.now e) }
+        (λ e. StopsAt (want.ident ∷ []) given.now e) }
 {
     match ident(alloc, given)? {
         Some(found) => Ok(found),
@@ -178,7 +178,7 @@ pub fn constant(alloc: Global, given: &[Token]) -> Result<Option<(Factor, &[Toke
 
 /// A sign, which may stand here.
 pub fn sign(given: &[Token]) -> (Option<Signed>, &[Token])
-    ensures { Reads (want.some_sign ∷ []) 0 given.now (print_some print_sign result.0) 0 result.1.now }
+    ensures { ReadsParts (want.some_sign ∷ []) 0 given.now (print_some print_sign result.0) 0 result.1.now }
 {
     if let Some((span, rest)) = symbol(given, Symbol::Plus) {
         let sign = Sign::Plus;
@@ -194,7 +194,7 @@ pub fn sign(given: &[Token]) -> (Option<Signed>, &[Token])
 /// The next token, if it compares.
 pub fn relator(given: &[Token]) -> Option<(Relator, Span, &[Token])>
     ensures some { IfSome result (λ x. given.now ≡ relator_token x.0 x.1 ∷ x.2.now) }
-    ensures none { IfNone result (next_is (λ k. eqb (rank k) 6) given.now ≡ false) }
+    ensures none { IfNone result (next_is (λ k. eqb (reach k) 6) given.now ≡ false) }
 {
     if let Some((span, rest)) = symbol(given, Symbol::Equal) {
         return Some((Relator::Equal, span, rest));
@@ -224,7 +224,7 @@ pub fn relator(given: &[Token]) -> Option<(Relator, Span, &[Token])>
 /// The next token, if it joins terms.
 pub fn add_operator(given: &[Token]) -> Option<(AddOperator, Span, &[Token])>
     ensures some { IfSome result (λ x. given.now ≡ add_token x.0 x.1 ∷ x.2.now) }
-    ensures none { IfNone result (next_is (λ k. eqb (rank k) 7) given.now ≡ false) }
+    ensures none { IfNone result (next_is (λ k. eqb (reach k) 7) given.now ≡ false) }
 {
     if let Some((span, rest)) = symbol(given, Symbol::Plus) {
         return Some((AddOperator::Add, span, rest));
@@ -239,7 +239,7 @@ pub fn add_operator(given: &[Token]) -> Option<(AddOperator, Span, &[Token])>
 /// The next token, if it joins factors.
 pub fn mul_operator(given: &[Token]) -> Option<(MulOperator, Span, &[Token])>
     ensures some { IfSome result (λ x. given.now ≡ mul_token x.0 x.1 ∷ x.2.now) }
-    ensures none { IfNone result (next_is (λ k. eqb (rank k) 8) given.now ≡ false) }
+    ensures none { IfNone result (next_is (λ k. eqb (reach k) 8) given.now ≡ false) }
 {
     if let Some((span, rest)) = symbol(given, Symbol::Star) {
         return Some((MulOperator::Multiply, span, rest));

@@ -9,7 +9,7 @@ ghost use Rattle.oberon_tree.specs.Levels.{depth_of_expr, depth_of_statements, d
 ghost use Rattle.oberon_tree.specs.Memory.{expr_tree, statements_tree, more_statements_list, statement_tree, elsifs_list, else_option, arm_tree, more_arms_list, step_option};
 ghost use Rattle.oberon_parse.specs.Expected as want;
 ghost use Rattle.oberon_parse.specs.Machine.{statements_parts, guarded_parts};
-ghost use Rattle.oberon_parse.specs.Reads.{Reads, Stops};
+ghost use Rattle.oberon_parse.specs.Reading.{ReadsParts, StopsAt};
 
 use crate::expression::{expr, selectors};
 use crate::label::{first_value, label_upper, more_labels};
@@ -31,9 +31,9 @@ pub fn statements(
     levels: usize,
 ) -> Result<(Statements, &[Token]), Stop>
     ensures { MatchResult result
-        (λ x. Reads (statements_parts levels) levels given.now (print_statements (statements_tree x.0))
+        (λ x. ReadsParts (statements_parts levels) levels given.now (print_statements (statements_tree x.0))
         (depth_of_statements (statements_tree x.0)) x.1.now)
-        (λ e. Stops (statements_parts levels) given.now e) }
+        (λ e. StopsAt (statements_parts levels) given.now e) }
 {
     let (first, rest) = statement(alloc, given, levels)?;
     let (next, rest) = more_statements(alloc, rest, levels)?;
@@ -49,10 +49,10 @@ fn more_statements(
     levels: usize,
 ) -> Result<(Vec<NextStatement>, &[Token]), Stop>
     ensures { MatchResult result
-        (λ x. Reads (want.statements levels ∷ []) levels given.now
+        (λ x. ReadsParts (want.statements levels ∷ []) levels given.now
         (print_more_statements (more_statements_list x.0.items))
         (depth_of_more_statements (more_statements_list x.0.items)) x.1.now)
-        (λ e. Stops (want.statements levels ∷ []) given.now e) }
+        (λ e. StopsAt (want.statements levels ∷ []) given.now e) }
 {
     let mut items = Vec::new(alloc);
     let mut rest = given;
@@ -71,32 +71,32 @@ fn more_statements(
 #[cycle(statement)]
 fn statement(alloc: Global, given: &[Token], levels: usize) -> Result<(Statement, &[Token]), Stop>
     ensures { MatchResult result
-        (λ x. Reads (want.statement levels ∷ []) levels given.now (print_statement (statement_tree x.0))
+        (λ x. ReadsParts (want.statement levels ∷ []) levels given.now (print_statement (statement_tree x.0))
         (depth_of_statement (statement_tree x.0)) x.1.now)
-        (λ e. Stops (want.statement levels ∷ []) given.now e) }
+        (λ e. StopsAt (want.statement levels ∷ []) given.now e) }
 {
     if let Some((name, rest)) = ident(alloc, given)? {
         return action(alloc, name, rest, levels);
     }
-    if let Some((place, rest)) = word(given, Word::If) {
+    if let Some((span, rest)) = word(given, Word::If) {
         let inner = one_less(given, levels)?;
-        return conditional(alloc, place, rest, inner);
+        return conditional(alloc, span, rest, inner);
     }
-    if let Some((place, rest)) = word(given, Word::Case) {
+    if let Some((span, rest)) = word(given, Word::Case) {
         let inner = one_less(given, levels)?;
-        return choice(alloc, place, rest, inner);
+        return choice(alloc, span, rest, inner);
     }
-    if let Some((place, rest)) = word(given, Word::While) {
+    if let Some((span, rest)) = word(given, Word::While) {
         let inner = one_less(given, levels)?;
-        return repetition(alloc, place, rest, inner);
+        return repetition(alloc, span, rest, inner);
     }
-    if let Some((place, rest)) = word(given, Word::Repeat) {
+    if let Some((span, rest)) = word(given, Word::Repeat) {
         let inner = one_less(given, levels)?;
-        return repeat(alloc, place, rest, inner);
+        return repeat(alloc, span, rest, inner);
     }
-    if let Some((place, rest)) = word(given, Word::For) {
+    if let Some((span, rest)) = word(given, Word::For) {
         let inner = one_less(given, levels)?;
-        return counted(alloc, place, rest, inner);
+        return counted(alloc, span, rest, inner);
     }
     Ok((Statement::Empty, given))
 }
@@ -109,18 +109,18 @@ fn action(
     levels: usize,
 ) -> Result<(Statement, &[Token]), Stop>
     ensures { MatchResult result
-        (λ x. Reads (want.statement levels ∷ []) levels (ident_token name ∷ given.now)
+        (λ x. ReadsParts (want.statement levels ∷ []) levels (ident_token name ∷ given.now)
         (print_statement (statement_tree x.0)) (depth_of_statement (statement_tree x.0)) x.1.now)
-        (λ e. Stops (want.statement levels ∷ []) (ident_token name ∷ given.now) e) }
+        (λ e. StopsAt (want.statement levels ∷ []) (ident_token name ∷ given.now) e) }
 {
     let (selectors, rest) = selectors(alloc, given, levels)?;
-    let place = Designator { name, selectors };
+    let designator = Designator { name, selectors };
     let Some((becomes, rest)) = symbol(rest, Symbol::Becomes) else {
-        return Ok((Statement::Call(place), rest));
+        return Ok((Statement::Call(designator), rest));
     };
     let (value, rest) = expr(alloc, rest, levels)?;
     let assignment = Assignment {
-        place,
+        designator,
         becomes,
         value,
     };
@@ -137,17 +137,17 @@ fn guarded(
     levels: usize,
 ) -> Result<((Expr, Span, Statements), &[Token]), Stop>
     ensures { MatchResult result
-        (λ x. Reads (guarded_parts joint levels) levels given.now
+        (λ x. ReadsParts (guarded_parts joint levels) levels given.now
         (λ (rest : List AnyToken). print_expr (expr_tree x.0.0)
         (word_token joint x.0.1 ∷ print_statements (statements_tree x.0.2) rest))
         (max (depth_of_expr (expr_tree x.0.0)) (depth_of_statements (statements_tree x.0.2)))
         x.1.now)
-        (λ e. Stops (guarded_parts joint levels) given.now e) }
+        (λ e. StopsAt (guarded_parts joint levels) given.now e) }
 {
     let (condition, rest) = expr(alloc, given, levels)?;
-    let (place, rest) = need_word(rest, joint)?;
+    let (span, rest) = need_word(rest, joint)?;
     let (body, rest) = statements(alloc, rest, levels)?;
-    Ok(((condition, place, body), rest))
+    Ok(((condition, span, body), rest))
 }
 
 /// `{ELSIF expr THEN stmts}`, or the same with DO.
@@ -159,17 +159,17 @@ fn elsifs(
     levels: usize,
 ) -> Result<(Vec<Guarded>, &[Token]), Stop>
     ensures { MatchResult result
-        (λ x. Reads (want.elsifs joint levels ∷ []) levels given.now
+        (λ x. ReadsParts (want.elsifs joint levels ∷ []) levels given.now
         (print_elsifs joint (elsifs_list x.0.items)) (depth_of_elsifs (elsifs_list x.0.items)) x.1.now)
-        (λ e. Stops (want.elsifs joint levels ∷ []) given.now e) }
+        (λ e. StopsAt (want.elsifs joint levels ∷ []) given.now e) }
 {
     let mut items = Vec::new(alloc);
     let mut rest = given;
-    while let Some((place, after)) = word(rest, Word::Elsif) {
+    while let Some((span, after)) = word(rest, Word::Elsif) {
         let (parts, after) = guarded(alloc, after, joint, levels)?;
         let (condition, body_word, body) = parts;
         items.push(Guarded {
-            word: place,
+            word: span,
             condition,
             body_word,
             body,
@@ -187,15 +187,15 @@ fn otherwise(
     levels: usize,
 ) -> Result<(Option<ElsePart>, &[Token]), Stop>
     ensures { MatchResult result
-        (λ x. Reads (want.some_else levels ∷ []) levels given.now (print_else (else_option x.0))
+        (λ x. ReadsParts (want.some_else levels ∷ []) levels given.now (print_else (else_option x.0))
         (depth_of_else (else_option x.0)) x.1.now)
-        (λ e. Stops (want.some_else levels ∷ []) given.now e) }
+        (λ e. StopsAt (want.some_else levels ∷ []) given.now e) }
 {
-    let Some((place, rest)) = word(given, Word::Else) else {
+    let Some((span, rest)) = word(given, Word::Else) else {
         return Ok((None, given));
     };
     let (body, rest) = statements(alloc, rest, levels)?;
-    let part = ElsePart { word: place, body };
+    let part = ElsePart { word: span, body };
     Ok((Some(part), rest))
 }
 
@@ -203,14 +203,14 @@ fn otherwise(
 #[cycle(statement)]
 fn conditional(
     alloc: Global,
-    place: Span,
+    span: Span,
     given: &[Token],
     levels: usize,
 ) -> Result<(Statement, &[Token]), Stop>
     ensures { MatchResult result
-        (λ x. Reads (want.statement (suc levels) ∷ []) (suc levels) (word_token words.If place ∷ given.now)
+        (λ x. ReadsParts (want.statement (suc levels) ∷ []) (suc levels) (word_token words.If span ∷ given.now)
         (print_statement (statement_tree x.0)) (depth_of_statement (statement_tree x.0)) x.1.now)
-        (λ e. Stops (want.statement (suc levels) ∷ []) (word_token words.If place ∷ given.now) e) }
+        (λ e. StopsAt (want.statement (suc levels) ∷ []) (word_token words.If span ∷ given.now) e) }
 {
     let (parts, rest) = guarded(alloc, given, Word::Then, levels)?;
     let (next, rest) = elsifs(alloc, rest, Word::Then, levels)?;
@@ -218,7 +218,7 @@ fn conditional(
     let (end, rest) = need_word(rest, Word::End)?;
     let (condition, body_word, body) = parts;
     let first = Guarded {
-        word: place,
+        word: span,
         condition,
         body_word,
         body,
@@ -237,15 +237,15 @@ fn conditional(
 #[cycle(statement)]
 fn choice(
     alloc: Global,
-    place: Span,
+    span: Span,
     given: &[Token],
     levels: usize,
 ) -> Result<(Statement, &[Token]), Stop>
     ensures { MatchResult result
-        (λ x. Reads (want.statement (suc levels) ∷ []) (suc levels)
-        (word_token words.Case place ∷ given.now) (print_statement (statement_tree x.0))
+        (λ x. ReadsParts (want.statement (suc levels) ∷ []) (suc levels)
+        (word_token words.Case span ∷ given.now) (print_statement (statement_tree x.0))
         (depth_of_statement (statement_tree x.0)) x.1.now)
-        (λ e. Stops (want.statement (suc levels) ∷ []) (word_token words.Case place ∷ given.now) e) }
+        (λ e. StopsAt (want.statement (suc levels) ∷ []) (word_token words.Case span ∷ given.now) e) }
 {
     let (value, rest) = expr(alloc, given, levels)?;
     let (of, rest) = need_word(rest, Word::Of)?;
@@ -253,7 +253,7 @@ fn choice(
     let (next, rest) = more_arms(alloc, rest, levels)?;
     let (end, rest) = need_word(rest, Word::End)?;
     let case = Case {
-        word: place,
+        word: span,
         value,
         of,
         first,
@@ -268,9 +268,9 @@ fn choice(
 #[cycle(statement)]
 fn arm(alloc: Global, given: &[Token], levels: usize) -> Result<(Arm, &[Token]), Stop>
     ensures { MatchResult result
-        (λ x. Reads (want.arm levels ∷ []) levels given.now (print_arm (arm_tree x.0))
+        (λ x. ReadsParts (want.arm levels ∷ []) levels given.now (print_arm (arm_tree x.0))
         (depth_of_arm (arm_tree x.0)) x.1.now)
-        (λ e. Stops (want.arm levels ∷ []) given.now e) }
+        (λ e. StopsAt (want.arm levels ∷ []) given.now e) }
 {
     let Some((first, rest)) = first_value(alloc, given)? else {
         return Ok((Arm::Empty, given));
@@ -299,9 +299,9 @@ fn more_arms(
     levels: usize,
 ) -> Result<(Vec<NextArm>, &[Token]), Stop>
     ensures { MatchResult result
-        (λ x. Reads (want.arms levels ∷ []) levels given.now (print_more_arms (more_arms_list x.0.items))
+        (λ x. ReadsParts (want.arms levels ∷ []) levels given.now (print_more_arms (more_arms_list x.0.items))
         (depth_of_more_arms (more_arms_list x.0.items)) x.1.now)
-        (λ e. Stops (want.arms levels ∷ []) given.now e) }
+        (λ e. StopsAt (want.arms levels ∷ []) given.now e) }
 {
     let mut items = Vec::new(alloc);
     let mut rest = given;
@@ -317,22 +317,22 @@ fn more_arms(
 #[cycle(statement)]
 fn repetition(
     alloc: Global,
-    place: Span,
+    span: Span,
     given: &[Token],
     levels: usize,
 ) -> Result<(Statement, &[Token]), Stop>
     ensures { MatchResult result
-        (λ x. Reads (want.statement (suc levels) ∷ []) (suc levels)
-        (word_token words.While place ∷ given.now) (print_statement (statement_tree x.0))
+        (λ x. ReadsParts (want.statement (suc levels) ∷ []) (suc levels)
+        (word_token words.While span ∷ given.now) (print_statement (statement_tree x.0))
         (depth_of_statement (statement_tree x.0)) x.1.now)
-        (λ e. Stops (want.statement (suc levels) ∷ []) (word_token words.While place ∷ given.now) e) }
+        (λ e. StopsAt (want.statement (suc levels) ∷ []) (word_token words.While span ∷ given.now) e) }
 {
     let (parts, rest) = guarded(alloc, given, Word::Do, levels)?;
     let (next, rest) = elsifs(alloc, rest, Word::Do, levels)?;
     let (end, rest) = need_word(rest, Word::End)?;
     let (condition, body_word, body) = parts;
     let first = Guarded {
-        word: place,
+        word: span,
         condition,
         body_word,
         body,
@@ -350,21 +350,21 @@ fn repetition(
 #[cycle(statement)]
 fn repeat(
     alloc: Global,
-    place: Span,
+    span: Span,
     given: &[Token],
     levels: usize,
 ) -> Result<(Statement, &[Token]), Stop>
     ensures { MatchResult result
-        (λ x. Reads (want.statement (suc levels) ∷ []) (suc levels)
-        (word_token words.Repeat place ∷ given.now) (print_statement (statement_tree x.0))
+        (λ x. ReadsParts (want.statement (suc levels) ∷ []) (suc levels)
+        (word_token words.Repeat span ∷ given.now) (print_statement (statement_tree x.0))
         (depth_of_statement (statement_tree x.0)) x.1.now)
-        (λ e. Stops (want.statement (suc levels) ∷ []) (word_token words.Repeat place ∷ given.now) e) }
+        (λ e. StopsAt (want.statement (suc levels) ∷ []) (word_token words.Repeat span ∷ given.now) e) }
 {
     let (body, rest) = statements(alloc, given, levels)?;
     let (until, rest) = need_word(rest, Word::Until)?;
     let (condition, rest) = expr(alloc, rest, levels)?;
     let repeat = Repeat {
-        word: place,
+        word: span,
         body,
         until,
         condition,
@@ -377,14 +377,14 @@ fn repeat(
 #[cycle(statement)]
 fn counted(
     alloc: Global,
-    place: Span,
+    span: Span,
     given: &[Token],
     levels: usize,
 ) -> Result<(Statement, &[Token]), Stop>
     ensures { MatchResult result
-        (λ x. Reads (want.statement (suc levels) ∷ []) (suc levels) (word_token words.For place ∷ given.now)
+        (λ x. ReadsParts (want.statement (suc levels) ∷ []) (suc levels) (word_token words.For span ∷ given.now)
         (print_statement (statement_tree x.0)) (depth_of_statement (statement_tree x.0)) x.1.now)
-        (λ e. Stops (want.statement (suc levels) ∷ []) (word_token words.For place ∷ given.now) e) }
+        (λ e. StopsAt (want.statement (suc levels) ∷ []) (word_token words.For span ∷ given.now) e) }
 {
     let (variable, rest) = need_ident(alloc, given)?;
     let (becomes, rest) = need_symbol(rest, Symbol::Becomes)?;
@@ -396,7 +396,7 @@ fn counted(
     let (body, rest) = statements(alloc, rest, levels)?;
     let (end, rest) = need_word(rest, Word::End)?;
     let counted = For {
-        word: place,
+        word: span,
         variable,
         becomes,
         from,
@@ -414,13 +414,13 @@ fn counted(
 /// `[BY expr]`.
 fn step(alloc: Global, given: &[Token], levels: usize) -> Result<(Option<Step>, &[Token]), Stop>
     ensures { MatchResult result
-        (λ x. Reads (want.some_step levels ∷ []) levels given.now (print_step (step_option x.0))
+        (λ x. ReadsParts (want.some_step levels ∷ []) levels given.now (print_step (step_option x.0))
         (depth_of_step (step_option x.0)) x.1.now)
-        (λ e. Stops (want.some_step levels ∷ []) given.now e) }
+        (λ e. StopsAt (want.some_step levels ∷ []) given.now e) }
 {
-    let Some((place, rest)) = word(given, Word::By) else {
+    let Some((span, rest)) = word(given, Word::By) else {
         return Ok((None, given));
     };
     let (value, rest) = expr(alloc, rest, levels)?;
-    Ok((Some(Step { word: place, value }), rest))
+    Ok((Some(Step { word: span, value }), rest))
 }

@@ -10,7 +10,7 @@ ghost use Rattle.oberon_tree.specs.Levels.{depth_of_some, depth_of_body, depth_o
 ghost use Rattle.oberon_tree.specs.Memory.{imports_tree, body_tree, module_tree};
 ghost use Rattle.oberon_parse.specs.Expected as want;
 ghost use Rattle.oberon_parse.specs.Machine.{import_parts, module_parts};
-ghost use Rattle.oberon_parse.specs.Reads.{Reads, Stops};
+ghost use Rattle.oberon_parse.specs.Reading.{ReadsParts, StopsAt};
 
 use crate::declaration::declarations;
 use crate::procedure::{body, procedures};
@@ -30,18 +30,18 @@ type Rest = (Option<Body>, Span, Ident, Span);
 /// `module = MODULE ident ";" [imports] decls {procedure ";"} [BEGIN stmts] END ident "."`.
 pub fn any_module(alloc: Global, given: &[Token], levels: usize) -> Result<(Module, &[Token]), Stop>
     ensures { MatchResult result
-        (λ x. Reads (module_parts levels) levels given.now (print_module (module_tree x.0))
+        (λ x. ReadsParts (module_parts levels) levels given.now (print_module (module_tree x.0))
         (depth_of_module (module_tree x.0)) x.1.now)
-        (λ e. Stops (module_parts levels) given.now e) }
+        (λ e. StopsAt (module_parts levels) given.now e) }
 {
     let (found, rest) = heading(alloc, given)?;
     let (declarations, rest) = declarations(alloc, rest, levels)?;
     let (procedures, rest) = procedures(alloc, rest, levels)?;
     let (behind, rest) = rest_of_module(alloc, rest, levels)?;
-    let (place, name, semicolon, imports) = found;
+    let (span, name, semicolon, imports) = found;
     let (body, end, end_name, period) = behind;
     let module = Module {
-        word: place,
+        word: span,
         name,
         semicolon,
         imports,
@@ -58,33 +58,33 @@ pub fn any_module(alloc: Global, given: &[Token], levels: usize) -> Result<(Modu
 /// `MODULE ident ";" [imports]`.
 fn heading(alloc: Global, given: &[Token]) -> Result<(Heading, &[Token]), Stop>
     ensures { MatchResult result
-        (λ x. Reads
+        (λ x. ReadsParts
         (want.word words.Module ∷ want.ident ∷ want.symbol symbols.Semicolon ∷ want.some_imports ∷ []) 0
         given.now
         (λ (rest : List AnyToken). word_token words.Module x.0.0 ∷ ident_token x.0.1
         ∷ symbol_token symbols.Semicolon x.0.2
         ∷ print_some print_imports (option_map imports_tree x.0.3) rest) 0 x.1.now)
-        (λ e. Stops
+        (λ e. StopsAt
         (want.word words.Module ∷ want.ident ∷ want.symbol symbols.Semicolon ∷ want.some_imports ∷ [])
         given.now e) }
 {
-    let (place, rest) = need_word(given, Word::Module)?;
+    let (span, rest) = need_word(given, Word::Module)?;
     let (name, rest) = need_ident(alloc, rest)?;
     let (semicolon, rest) = need_symbol(rest, Symbol::Semicolon)?;
     let (imports, rest) = imports(alloc, rest)?;
-    Ok(((place, name, semicolon, imports), rest))
+    Ok(((span, name, semicolon, imports), rest))
 }
 
 /// `[BEGIN stmts] END ident "."`.
 fn rest_of_module(alloc: Global, given: &[Token], levels: usize) -> Result<(Rest, &[Token]), Stop>
     ensures { MatchResult result
-        (λ x. Reads
+        (λ x. ReadsParts
         (want.some_body levels ∷ want.word words.End ∷ want.ident ∷ want.symbol symbols.Period ∷ []) levels
         given.now
         (λ (rest : List AnyToken). print_some print_body (option_map body_tree x.0.0)
         (word_token words.End x.0.1 ∷ ident_token x.0.2 ∷ symbol_token symbols.Period x.0.3 ∷ rest))
         (depth_of_some depth_of_body (option_map body_tree x.0.0)) x.1.now)
-        (λ e. Stops
+        (λ e. StopsAt
         (want.some_body levels ∷ want.word words.End ∷ want.ident ∷ want.symbol symbols.Period ∷ [])
         given.now e) }
 {
@@ -98,18 +98,18 @@ fn rest_of_module(alloc: Global, given: &[Token], levels: usize) -> Result<(Rest
 /// `[IMPORT import {"," import} ";"]`.
 fn imports(alloc: Global, given: &[Token]) -> Result<(Option<Imports>, &[Token]), Stop>
     ensures { MatchResult result
-        (λ x. Reads (want.some_imports ∷ []) 0 given.now
+        (λ x. ReadsParts (want.some_imports ∷ []) 0 given.now
         (print_some print_imports (option_map imports_tree x.0)) 0 x.1.now)
-        (λ e. Stops (want.some_imports ∷ []) given.now e) }
+        (λ e. StopsAt (want.some_imports ∷ []) given.now e) }
 {
-    let Some((place, rest)) = word(given, Word::Import) else {
+    let Some((span, rest)) = word(given, Word::Import) else {
         return Ok((None, given));
     };
     let (first, rest) = import(alloc, rest)?;
     let (next, rest) = more_imports(alloc, rest)?;
     let (semicolon, rest) = need_symbol(rest, Symbol::Semicolon)?;
     let imports = Imports {
-        word: place,
+        word: span,
         first,
         rest: next,
         semicolon,
@@ -120,8 +120,8 @@ fn imports(alloc: Global, given: &[Token]) -> Result<(Option<Imports>, &[Token])
 /// `{"," import}`.
 fn more_imports(alloc: Global, given: &[Token]) -> Result<(Vec<NextImport>, &[Token]), Stop>
     ensures { MatchResult result
-        (λ x. Reads (want.imports ∷ []) 0 given.now (print_each print_next_import x.0.items) 0 x.1.now)
-        (λ e. Stops (want.imports ∷ []) given.now e) }
+        (λ x. ReadsParts (want.imports ∷ []) 0 given.now (print_each print_next_import x.0.items) 0 x.1.now)
+        (λ e. StopsAt (want.imports ∷ []) given.now e) }
 {
     let mut items = Vec::new(alloc);
     let mut rest = given;
@@ -136,8 +136,8 @@ fn more_imports(alloc: Global, given: &[Token]) -> Result<(Vec<NextImport>, &[To
 /// `import = ident [":=" ident]`.
 fn import(alloc: Global, given: &[Token]) -> Result<(Import, &[Token]), Stop>
     ensures { MatchResult result
-        (λ x. Reads import_parts 0 given.now (print_import x.0) 0 x.1.now)
-        (λ e. Stops import_parts given.now e) }
+        (λ x. ReadsParts import_parts 0 given.now (print_import x.0) 0 x.1.now)
+        (λ e. StopsAt import_parts given.now e) }
 {
     let (name, rest) = need_ident(alloc, given)?;
     let (alias, rest) = alias(alloc, rest)?;
@@ -147,8 +147,8 @@ fn import(alloc: Global, given: &[Token]) -> Result<(Import, &[Token]), Stop>
 /// `[":=" ident]`.
 fn alias(alloc: Global, given: &[Token]) -> Result<(Option<Alias>, &[Token]), Stop>
     ensures { MatchResult result
-        (λ x. Reads (want.some_alias ∷ []) 0 given.now (print_some print_alias x.0) 0 x.1.now)
-        (λ e. Stops (want.some_alias ∷ []) given.now e) }
+        (λ x. ReadsParts (want.some_alias ∷ []) 0 given.now (print_some print_alias x.0) 0 x.1.now)
+        (λ e. StopsAt (want.some_alias ∷ []) given.now e) }
 {
     let Some((becomes, rest)) = symbol(given, Symbol::Becomes) else {
         return Ok((None, given));

@@ -8,7 +8,7 @@ ghost use Rattle.oberon_tree.specs.Levels.{depth_of_type, depth_of_field_lists, 
 ghost use Rattle.oberon_tree.specs.Memory.{type_tree, field_lists_tree, more_fields_list, fields_tree};
 ghost use Rattle.oberon_parse.specs.Expected as want;
 ghost use Rattle.oberon_parse.specs.Machine.{fields_parts};
-ghost use Rattle.oberon_parse.specs.Reads.{Reads, Stops};
+ghost use Rattle.oberon_parse.specs.Reading.{ReadsParts, StopsAt};
 
 use crate::expression::exprs;
 use crate::name::{ident_defs, member, qualident};
@@ -23,9 +23,9 @@ use std::alloc::Global;
 #[cycle(type_part)]
 pub fn any_type(alloc: Global, given: &[Token], levels: usize) -> Result<(Type, &[Token]), Stop>
     ensures { MatchResult result
-        (λ x. Reads (want.type_part levels ∷ []) levels given.now (print_type (type_tree x.0))
+        (λ x. ReadsParts (want.type_part levels ∷ []) levels given.now (print_type (type_tree x.0))
         (depth_of_type (type_tree x.0)) x.1.now)
-        (λ e. Stops (want.type_part levels ∷ []) given.now e) }
+        (λ e. StopsAt (want.type_part levels ∷ []) given.now e) }
 {
     if let Some((first, rest)) = ident(alloc, given)? {
         let (member, rest) = member(alloc, rest)?;
@@ -34,11 +34,11 @@ pub fn any_type(alloc: Global, given: &[Token], levels: usize) -> Result<(Type, 
     if levels == 0 {
         return Err(Stop::Left(given.len()));
     }
-    if let Some((place, rest)) = word(given, Word::Array) {
-        return array(alloc, place, rest, levels - 1);
+    if let Some((span, rest)) = word(given, Word::Array) {
+        return array(alloc, span, rest, levels - 1);
     }
-    if let Some((place, rest)) = word(given, Word::Record) {
-        return record_type(alloc, place, rest, levels - 1);
+    if let Some((span, rest)) = word(given, Word::Record) {
+        return record_type(alloc, span, rest, levels - 1);
     }
     Err(Stop::Left(given.len()))
 }
@@ -47,21 +47,21 @@ pub fn any_type(alloc: Global, given: &[Token], levels: usize) -> Result<(Type, 
 #[cycle(type_part)]
 fn array(
     alloc: Global,
-    place: Span,
+    span: Span,
     given: &[Token],
     levels: usize,
 ) -> Result<(Type, &[Token]), Stop>
     ensures { MatchResult result
-        (λ x. Reads (want.type_part (suc levels) ∷ []) (suc levels)
-        (word_token words.Array place ∷ given.now) (print_type (type_tree x.0))
+        (λ x. ReadsParts (want.type_part (suc levels) ∷ []) (suc levels)
+        (word_token words.Array span ∷ given.now) (print_type (type_tree x.0))
         (depth_of_type (type_tree x.0)) x.1.now)
-        (λ e. Stops (want.type_part (suc levels) ∷ []) (word_token words.Array place ∷ given.now) e) }
+        (λ e. StopsAt (want.type_part (suc levels) ∷ []) (word_token words.Array span ∷ given.now) e) }
 {
     let (lengths, rest) = exprs(alloc, given, levels)?;
     let (of, rest) = need_word(rest, Word::Of)?;
     let (element, rest) = any_type(alloc, rest, levels)?;
     let array = ArrayType {
-        word: place,
+        word: span,
         lengths,
         of,
         element,
@@ -74,20 +74,20 @@ fn array(
 #[cycle(type_part)]
 fn record_type(
     alloc: Global,
-    place: Span,
+    span: Span,
     given: &[Token],
     levels: usize,
 ) -> Result<(Type, &[Token]), Stop>
     ensures { MatchResult result
-        (λ x. Reads (want.type_part (suc levels) ∷ []) (suc levels)
-        (word_token words.Record place ∷ given.now) (print_type (type_tree x.0))
+        (λ x. ReadsParts (want.type_part (suc levels) ∷ []) (suc levels)
+        (word_token words.Record span ∷ given.now) (print_type (type_tree x.0))
         (depth_of_type (type_tree x.0)) x.1.now)
-        (λ e. Stops (want.type_part (suc levels) ∷ []) (word_token words.Record place ∷ given.now) e) }
+        (λ e. StopsAt (want.type_part (suc levels) ∷ []) (word_token words.Record span ∷ given.now) e) }
 {
     let (base, rest) = base(alloc, given)?;
     if let Some((end, rest)) = word(rest, Word::End) {
         let empty = RecordType {
-            word: place,
+            word: span,
             base,
             fields: None,
             end,
@@ -98,7 +98,7 @@ fn record_type(
     let (lists, rest) = field_lists(alloc, rest, levels)?;
     let (end, rest) = need_word(rest, Word::End)?;
     let record = RecordType {
-        word: place,
+        word: span,
         base,
         fields: Some(lists),
         end,
@@ -115,9 +115,9 @@ fn field_lists(
     levels: usize,
 ) -> Result<(FieldLists, &[Token]), Stop>
     ensures { MatchResult result
-        (λ x. Reads (fields_parts levels ++ want.fields levels ∷ []) levels given.now
+        (λ x. ReadsParts (fields_parts levels ++ want.fields levels ∷ []) levels given.now
         (print_field_lists (field_lists_tree x.0)) (depth_of_field_lists (field_lists_tree x.0)) x.1.now)
-        (λ e. Stops (fields_parts levels ++ want.fields levels ∷ []) given.now e) }
+        (λ e. StopsAt (fields_parts levels ++ want.fields levels ∷ []) given.now e) }
 {
     let (first, rest) = fields(alloc, given, levels)?;
     let (next, rest) = more_fields(alloc, rest, levels)?;
@@ -133,10 +133,10 @@ fn more_fields(
     levels: usize,
 ) -> Result<(Vec<NextFields>, &[Token]), Stop>
     ensures { MatchResult result
-        (λ x. Reads (want.fields levels ∷ []) levels given.now
+        (λ x. ReadsParts (want.fields levels ∷ []) levels given.now
         (print_more_fields (more_fields_list x.0.items))
         (depth_of_more_fields (more_fields_list x.0.items)) x.1.now)
-        (λ e. Stops (want.fields levels ∷ []) given.now e) }
+        (λ e. StopsAt (want.fields levels ∷ []) given.now e) }
 {
     let mut items = Vec::new(alloc);
     let mut rest = given;
@@ -152,9 +152,9 @@ fn more_fields(
 #[cycle(type_part)]
 fn fields(alloc: Global, given: &[Token], levels: usize) -> Result<(Fields, &[Token]), Stop>
     ensures { MatchResult result
-        (λ x. Reads (fields_parts levels) levels given.now (print_fields (fields_tree x.0))
+        (λ x. ReadsParts (fields_parts levels) levels given.now (print_fields (fields_tree x.0))
         (depth_of_fields (fields_tree x.0)) x.1.now)
-        (λ e. Stops (fields_parts levels) given.now e) }
+        (λ e. StopsAt (fields_parts levels) given.now e) }
 {
     let (names, rest) = ident_defs(alloc, given)?;
     let (colon, rest) = need_symbol(rest, Symbol::Colon)?;
@@ -170,8 +170,8 @@ fn fields(alloc: Global, given: &[Token], levels: usize) -> Result<(Fields, &[To
 /// `["(" qualident ")"]`.
 fn base(alloc: Global, given: &[Token]) -> Result<(Option<Base>, &[Token]), Stop>
     ensures { MatchResult result
-        (λ x. Reads (want.some_base ∷ []) 0 given.now (print_some print_base x.0) 0 x.1.now)
-        (λ e. Stops (want.some_base ∷ []) given.now e) }
+        (λ x. ReadsParts (want.some_base ∷ []) 0 given.now (print_some print_base x.0) 0 x.1.now)
+        (λ e. StopsAt (want.some_base ∷ []) given.now e) }
 {
     let Some((opening, rest)) = symbol(given, Symbol::OpenParen) else {
         return Ok((None, given));

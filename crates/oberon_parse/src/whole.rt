@@ -1,9 +1,9 @@
 ghost use Rattle.std.specs.Prelude.{◌≡◌, ℕ, ◌≤◌, Some, IfOk, IfErr, MatchResult};
 ghost use Rattle.oberon_tree.specs.Print.{tokens_of};
 ghost use Rattle.oberon_tree.specs.Levels.{depth_of_module};
-ghost use Rattle.oberon_tree.specs.Memory.{module_tree};
+ghost use Rattle.oberon_tree.specs.Memory.{module_tree, tree_of};
 ghost use Rattle.oberon_parse.specs.Machine.{module_parts, stops};
-ghost use Rattle.oberon_parse.specs.Sentence.{IsFirstBad};
+ghost use Rattle.oberon_parse.specs.Sentence.{IsFirstBad, most_levels};
 
 use crate::stop::Stop;
 use crate::top::any_module;
@@ -12,9 +12,9 @@ use oberon_tree::{Module, Tree};
 use std::alloc::Global;
 
 /// How many levels a token of a module may stand inside.
-pub const LEVELS: usize = 64;
+const LEVELS: usize = 64;
 
-/// Why tokens have no tree. A place is the number of the tokens before the first bad one.
+/// Why tokens have no tree. An index is the number of the tokens before the first bad one.
 #[derive(Clone, Copy, Debug, PartialEq, Eq)]
 pub enum ParseRefusal {
     FirstBad(usize),
@@ -24,12 +24,12 @@ pub enum ParseRefusal {
 /// The tree of these tokens, or their first bad one (The Programming Language Oberon-07, sections 4 to 11).
 pub fn parse(alloc: Global, tokens: &[Token]) -> Result<Tree, ParseRefusal>
     // The tree prints the tokens, all of them.
-    ensures tree { IfOk result (λ t. tokens_of t ≡ tokens.now) }
+    ensures tree { IfOk result (λ t. tokens_of (tree_of t) ≡ tokens.now) }
     // None of them stands inside more levels.
-    ensures levels { IfOk result (λ t. depth_of_module t ≤ LEVELS) }
-    // A place is answered only where some sentence begins with the tokens before it, and none with it.
+    ensures levels { IfOk result (λ t. depth_of_module (tree_of t) ≤ most_levels) }
+    // An index is answered only where some sentence begins with the tokens before it, and none with it.
     ensures first_bad { IfErr result
-        (λ e. (k : ℕ) → e ≡ ParseRefusal.FirstBad k → IsFirstBad LEVELS tokens.now k) }
+        (λ e. (k : ℕ) → e ≡ ParseRefusal.FirstBad k → IsFirstBad most_levels tokens.now k) }
 {
     match whole(alloc, tokens) {
         Ok(found) => match Tree::new(alloc, found) {
@@ -44,8 +44,8 @@ pub fn parse(alloc: Global, tokens: &[Token]) -> Result<Tree, ParseRefusal>
 /// The module that these tokens are, all of them.
 fn whole(alloc: Global, tokens: &[Token]) -> Result<Module, Stop>
     ensures { MatchResult result
-        (λ m. (tokens_of (module_tree m) ≡ tokens.now) × (depth_of_module (module_tree m) ≤ LEVELS))
-        (λ e. (n : ℕ) → e ≡ Stop.Left n → stops (module_parts LEVELS) tokens.now ≡ Some n) }
+        (λ m. (tokens_of (module_tree m) ≡ tokens.now) × (depth_of_module (module_tree m) ≤ most_levels))
+        (λ e. (n : ℕ) → e ≡ Stop.Left n → stops (module_parts most_levels) tokens.now ≡ Some n) }
 {
     let (found, rest) = any_module(alloc, tokens, LEVELS)?;
     if rest.is_empty() {

@@ -5,7 +5,7 @@ use Rattle.std.specs.Option.{option_or}
 use Rattle.std.specs.List.{starts_with}
 use Rattle.std.proofs.lemmas.Bool.{eqb-true, and_parts, false≢true}
 use Rattle.oberon_scan.specs.declared.token.Symbol.{Symbol}
-use Rattle.oberon_scan.specs.Runs.{Begins}
+use Rattle.oberon_scan.specs.Runs.{HasFirst}
 use Rattle.oberon_scan.specs.Spelling.{symbol_text}
 use Rattle.oberon_scan.specs.Finding.{pair_symbol, single_symbol, symbol_at}
 use Rattle.oberon_scan.proofs.Spelled.{Spelled, single_found, pair_found, no_pair_at_end, either}
@@ -64,18 +64,18 @@ not_both : (o : Option Symbol) (s : Symbol) → o ≡ None → o ≡ Some s → 
 not_both o s e f = cc
 
 -- the first byte of a symbol
-first_is : (c a : ℕ) (rest text : List ℕ) → text ≡ a ∷ rest → Begins (λ b. b == c) text → a ≡ c
-first_is c a rest text e h = eqb-true a c (subst (Begins (λ b. b == c)) e h)
+first_is : (c a : ℕ) (rest text : List ℕ) → text ≡ a ∷ rest → HasFirst (λ b. b == c) text → a ≡ c
+first_is c a rest text e h = eqb-true a c (subst (HasFirst (λ b. b == c)) e h)
 
 -- where none is found, none begins with the first byte
-pub none_first : (text rest : List ℕ) (c : ℕ) (s : Symbol) → symbol_at text ≡ None → text ≡ c ∷ rest → Spelled s → Begins (λ b. b == c) (symbol_text s) → ⊥
+pub none_first : (text rest : List ℕ) (c : ℕ) (s : Symbol) → symbol_at text ≡ None → text ≡ c ∷ rest → Spelled s → HasFirst (λ b. b == c) (symbol_text s) → ⊥
 none_first text rest c s e f (Spelled.alone a _ g k) h =
     not_both (single_symbol c) s (alone_missing text rest c e f) (ap single_symbol (sym (first_is c a [] (symbol_text s) g h)) ∙ k)
 none_first text rest c s e f (Spelled.paired a b other _ _ g _ k) h =
     not_both (single_symbol c) other (alone_missing text rest c e f) (ap single_symbol (sym (first_is c a (b ∷ []) (symbol_text s) g h)) ∙ k)
 
 -- no symbol begins with a byte beyond ASCII
-pub none_beyond : (c : ℕ) (s : Symbol) → 128 ≤ c → Spelled s → Begins (λ b. b == c) (symbol_text s) → ⊥
+pub none_beyond : (c : ℕ) (s : Symbol) → 128 ≤ c → Spelled s → HasFirst (λ b. b == c) (symbol_text s) → ⊥
 none_beyond c s h (Spelled.alone a low g _) b =
     let same = first_is c a [] (symbol_text s) g b in
     omega arith

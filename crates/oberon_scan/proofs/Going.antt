@@ -12,11 +12,11 @@ use Rattle.oberon_scan.specs.declared.token.TokenKind.{TokenKind}
 use Rattle.oberon_scan.specs.declared.token.Symbol.{Symbol}
 use Rattle.oberon_scan.specs.declared.piece.Piece.{Piece}
 use Rattle.oberon_scan.specs.declared.piece.Piece.TheVariants as pieces
-use Rattle.oberon_scan.specs.Runs.{quote, is_number_byte, is_string_byte, Begins, Ends, IsRun}
+use Rattle.oberon_scan.specs.Runs.{quote, is_number_byte, is_string_byte, HasFirst, LacksFirst, IsRun}
 use Rattle.oberon_scan.specs.Comments.{Closes}
 use Rattle.oberon_scan.specs.Spelling.{spelling, symbol_text}
-use Rattle.oberon_scan.specs.Lexis.{IsGap, IsName, IsNumber, IsQuoted, Reads, Fails}
-use Rattle.oberon_scan.specs.Piece.{IsPiece}
+use Rattle.oberon_scan.specs.Lexis.{IsGap, IsName, IsNumber, IsQuoted, IsToken, IsFault}
+use Rattle.oberon_scan.specs.Piece.{CutsOff}
 use Rattle.oberon_scan.proofs.Spelled.{Spelled, spelled}
 
 pub record Goes (text rest : List ℕ) : Type 0 where
@@ -51,17 +51,17 @@ behind_run test low (byte ∷ run) rest each u =
     behind_run test low run rest p.1 (behind_ascii (byte ∷ (run ++ rest)) [] (run ++ rest) byte (low byte p.0) refl u)
 
 -- a run that begins has a byte
-run_shorter : (first test : ℕ → Bool) (text run rest : List ℕ) → ((byte : ℕ) → first byte ≡ true → test byte ≡ true) → Begins first text → IsRun test text run rest → length rest < length text
+run_shorter : (first test : ℕ → Bool) (text run rest : List ℕ) → ((byte : ℕ) → first byte ≡ true → test byte ≡ true) → HasFirst first text → IsRun test text run rest → length rest < length text
 run_shorter first test text [] rest imply b r =
-    absurd (no_end text b (subst (Ends test) (sym r.whole) r.longest))
+    absurd (no_end text b (subst (LacksFirst test) (sym r.whole) r.longest))
   where
-    no_end : (xs : List ℕ) → Begins first xs → Ends test xs → ⊥
+    no_end : (xs : List ℕ) → HasFirst first xs → LacksFirst test xs → ⊥
     no_end [] b e = b
     no_end (x ∷ xs) b e = true≢false (sym (imply x b) ∙ e)
 run_shorter first test text (byte ∷ run) rest imply b r =
     omega (arith, ap length r.whole, length-append (byte ∷ run) rest)
 
-run_goes : (first test : ℕ → Bool) (text run rest : List ℕ) → ((byte : ℕ) → first byte ≡ true → test byte ≡ true) → ((byte : ℕ) → test byte ≡ true → byte < 128) → Begins first text → IsRun test text run rest → Goes text rest
+run_goes : (first test : ℕ → Bool) (text run rest : List ℕ) → ((byte : ℕ) → first byte ≡ true → test byte ≡ true) → ((byte : ℕ) → test byte ≡ true → byte < 128) → HasFirst first text → IsRun test text run rest → Goes text rest
 run_goes first test text run rest imply low b r =
     record { shorter = run_shorter first test text run rest imply b r; utf8 = λ u. behind_run test low run rest r.each (subst IsUtf8 r.whole u) }
 
@@ -127,15 +127,15 @@ symbol_goes : (text rest : List ℕ) (s : Symbol) → text ≡ symbol_text s ++ 
 symbol_goes text rest s e (Spelled.alone a low f _) = front_goes text [] rest a low (e ∙ ap (λ xs. xs ++ rest) f)
 symbol_goes text rest s e (Spelled.paired a b _ _ low f _ _) = front_goes text (a ∷ []) rest b low (e ∙ ap (λ xs. xs ++ rest) f)
 
-pub reads_goes : {text rest : List ℕ} {kind : TokenKind} → Reads text kind rest → Goes text rest
-reads_goes {text} {rest} (Reads.word w n) = name_goes text (spelling w) rest n
-reads_goes {text} {rest} (Reads.name run n _) = name_goes text run rest n
-reads_goes {text} {rest} (Reads.decimal run n _ _ _) = number_goes text run rest n
-reads_goes {text} {rest} (Reads.hexadecimal run n _) = suffix_goes text rest 72 (lit< tt) (number_goes text run (72 ∷ rest) n)
-reads_goes {text} {rest} (Reads.character run n _) = suffix_goes text rest 88 (lit< tt) (number_goes text run (88 ∷ rest) n)
-reads_goes {text} {rest} (Reads.string run q) =
+pub token_goes : {text rest : List ℕ} {kind : TokenKind} → IsToken text kind rest → Goes text rest
+token_goes {text} {rest} (IsToken.word w n) = name_goes text (spelling w) rest n
+token_goes {text} {rest} (IsToken.name run n _) = name_goes text run rest n
+token_goes {text} {rest} (IsToken.decimal run n _ _ _) = number_goes text run rest n
+token_goes {text} {rest} (IsToken.hexadecimal run n _) = suffix_goes text rest 72 (lit< tt) (number_goes text run (72 ∷ rest) n)
+token_goes {text} {rest} (IsToken.character run n _) = suffix_goes text rest 88 (lit< tt) (number_goes text run (88 ∷ rest) n)
+token_goes {text} {rest} (IsToken.string run q) =
     front_goes text (quote ∷ run) rest quote (lit< tt) (q.first ∙ ap (λ xs. quote ∷ xs) q.longest.whole)
-reads_goes {text} {rest} (Reads.symbol s h) = symbol_goes text rest s h.whole (spelled s)
+token_goes {text} {rest} (IsToken.symbol s h) = symbol_goes text rest s h.whole (spelled s)
 
 bad_goes : (text rest : List ℕ) (c : ℕ) → text ≡ encode_utf8 c ++ rest → Goes text rest
 bad_goes text rest c e =
@@ -149,32 +149,32 @@ open_goes text run rest q =
     let e : text ≡ (quote ∷ run) ++ rest = q.first ∙ ap (λ xs. quote ∷ xs) q.longest.whole in
     record {
       shorter = omega (arith, ap length e, length-append (quote ∷ run) rest);
-      utf8 = before_ascii text (quote ∷ run) rest e (λ byte more f. line_end_low byte (subst (Ends is_string_byte) f q.longest.longest));
+      utf8 = before_ascii text (quote ∷ run) rest e (λ byte more f. line_end_low byte (subst (LacksFirst is_string_byte) f q.longest.longest));
     }
 
-pub fails_goes : {text rest : List ℕ} {code : Code} {n : ℕ} → Fails text code n rest → Goes text rest
-fails_goes {text} {rest} (Fails.bad_character c _ _ e) = bad_goes text rest c e
-fails_goes {text} (Fails.open_comment body e _) = record { shorter = omega (arith, ap length e); utf8 = λ _. IsUtf8-nil }
-fails_goes {text} {rest} (Fails.open_string run q _) = open_goes text run rest q
-fails_goes {text} {rest} (Fails.bad_number run n _ _) = number_goes text run rest n
-fails_goes {text} {rest} (Fails.large_decimal run n _ _ _) = number_goes text run rest n
-fails_goes {text} {rest} (Fails.large_hexadecimal run n _) = suffix_goes text rest 72 (lit< tt) (number_goes text run (72 ∷ rest) n)
-fails_goes {text} {rest} (Fails.large_character run n _) = suffix_goes text rest 88 (lit< tt) (number_goes text run (88 ∷ rest) n)
+pub fault_goes : {text rest : List ℕ} {code : Code} {n : ℕ} → IsFault text code n rest → Goes text rest
+fault_goes {text} {rest} (IsFault.bad_character c _ _ e) = bad_goes text rest c e
+fault_goes {text} (IsFault.open_comment body e _) = record { shorter = omega (arith, ap length e); utf8 = λ _. IsUtf8-nil }
+fault_goes {text} {rest} (IsFault.open_string run q _) = open_goes text run rest q
+fault_goes {text} {rest} (IsFault.bad_number run n _ _) = number_goes text run rest n
+fault_goes {text} {rest} (IsFault.large_decimal run n _ _ _) = number_goes text run rest n
+fault_goes {text} {rest} (IsFault.large_hexadecimal run n _) = suffix_goes text rest 72 (lit< tt) (number_goes text run (72 ∷ rest) n)
+fault_goes {text} {rest} (IsFault.large_character run n _) = suffix_goes text rest 88 (lit< tt) (number_goes text run (88 ∷ rest) n)
 
-pub piece_goes : (text rest : List ℕ) (piece : Piece) → IsPiece text piece rest → Goes text rest
+pub piece_goes : (text rest : List ℕ) (piece : Piece) → CutsOff text piece rest → Goes text rest
 piece_goes text rest pieces.Gap h = gap_goes h
-piece_goes text rest (pieces.Token kind) h = reads_goes h
-piece_goes text rest (pieces.Fault code n) h = fails_goes h
+piece_goes text rest (pieces.Token kind) h = token_goes h
+piece_goes text rest (pieces.Fault code n) h = fault_goes h
 
 -- a fault is shown within the text
 number_shown : (text run after : List ℕ) → IsNumber text run after → length run + length after ≤ length text
 number_shown text run after n = omega (arith, ap length n.longest.whole, length-append run after)
 
-pub fails_shown : {text rest : List ℕ} {code : Code} {n : ℕ} → Fails text code n rest → n ≤ length text
-fails_shown {text} {rest} (Fails.bad_character c _ _ e) = omega (arith, ap length e, length-append (encode_utf8 c) rest)
-fails_shown {text} (Fails.open_comment body e _) = omega (arith, ap length e)
-fails_shown {text} {rest} (Fails.open_string run q _) = omega (arith, ap length q.first, ap length q.longest.whole, length-append run rest)
-fails_shown {text} {rest} (Fails.bad_number run n _ _) = omega (arith, number_shown text run rest n)
-fails_shown {text} {rest} (Fails.large_decimal run n _ _ _) = omega (arith, number_shown text run rest n)
-fails_shown {text} {rest} (Fails.large_hexadecimal run n _) = omega (arith, number_shown text run (72 ∷ rest) n)
-fails_shown {text} {rest} (Fails.large_character run n _) = omega (arith, number_shown text run (88 ∷ rest) n)
+pub fails_shown : {text rest : List ℕ} {code : Code} {n : ℕ} → IsFault text code n rest → n ≤ length text
+fails_shown {text} {rest} (IsFault.bad_character c _ _ e) = omega (arith, ap length e, length-append (encode_utf8 c) rest)
+fails_shown {text} (IsFault.open_comment body e _) = omega (arith, ap length e)
+fails_shown {text} {rest} (IsFault.open_string run q _) = omega (arith, ap length q.first, ap length q.longest.whole, length-append run rest)
+fails_shown {text} {rest} (IsFault.bad_number run n _ _) = omega (arith, number_shown text run rest n)
+fails_shown {text} {rest} (IsFault.large_decimal run n _ _ _) = omega (arith, number_shown text run rest n)
+fails_shown {text} {rest} (IsFault.large_hexadecimal run n _) = omega (arith, number_shown text run (72 ∷ rest) n)
+fails_shown {text} {rest} (IsFault.large_character run n _) = omega (arith, number_shown text run (88 ∷ rest) n)

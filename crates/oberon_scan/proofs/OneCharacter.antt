@@ -9,10 +9,10 @@ use Rattle.std.proofs.lemmas.Bool.Decides.{nat_tests}
 use Rattle.ob_text.specs.declared.code.Code.TheVariants as codes_of
 use Rattle.ob_text.specs.Position.{is_continuation}
 use Rattle.ob_text.proofs.Characters.{GoesOn, Shape, shape, is_continuation_yes, is_continuation_low, is_continuation_high}
-use Rattle.oberon_scan.specs.Runs.{Ends, IsRun}
+use Rattle.oberon_scan.specs.Runs.{LacksFirst, IsRun}
 use Rattle.oberon_scan.specs.Finding.{symbol_at}
 use Rattle.oberon_scan.specs.Piece.{IsNoBeginning}
-use Rattle.oberon_scan.specs.Lexis.{IsOther, Fails}
+use Rattle.oberon_scan.specs.Lexis.{IsOther, IsFault}
 use Rattle.oberon_scan.proofs.LongestRuns.{run_is}
 use Rattle.oberon_scan.proofs.Spelled.{spelled}
 use Rattle.oberon_scan.proofs.Fronts.{none_first, none_beyond}
@@ -40,11 +40,11 @@ bytes_of c (Shape.four a b d f low go_b go_d go_f wide e) =
     record { first = a; more = b ∷ d ∷ f ∷ []; are = e; go_on = continuing b (d ∷ f ∷ []) go_b (continuing d (f ∷ []) go_d (continuing f [] go_f refl)); begins = is_continuation_high a (omega arith); same = λ h. absurd (omega arith) }
 
 -- no text of UTF-8 begins within a character
-text_ends : (cs : List ℕ) → Ends is_continuation (encode_utf8_all cs)
+text_ends : (cs : List ℕ) → LacksFirst is_continuation (encode_utf8_all cs)
 text_ends [] = tt
 text_ends (c ∷ cs) =
     let b = bytes_of c (shape c) in
-    subst (λ xs. Ends is_continuation (xs ++ encode_utf8_all cs)) (sym b.are) b.begins
+    subst (λ xs. LacksFirst is_continuation (xs ++ encode_utf8_all cs)) (sym b.are) b.begins
 
 -- a character beyond ASCII begins nothing
 other_beyond : (c : ℕ) → 128 ≤ c → IsOther c
@@ -71,7 +71,7 @@ other_first text rest c e n f = ⊎_elim (λ low. ascii low) (other_beyond c) (c
         let begins : text ≡ c ∷ (b.more ++ rest) = e ∙ (ap (λ xs. xs ++ rest) b.are ∙ ap (λ x. x ∷ (b.more ++ rest)) (b.same low)) in
         other_ascii text (b.more ++ rest) c begins (subst IsNoBeginning (ap (λ xs. get_or xs 0 0) begins) n) f
 
-pub one_character : (text run rest : List ℕ) → 0 < length text → IsUtf8 text → IsNoBeginning (get_or text 0 0) → symbol_at text ≡ None → IsRun is_continuation (drop 1 text) run rest → Fails text codes_of.BadCharacter (length text - length rest) rest
+pub one_character : (text run rest : List ℕ) → 0 < length text → IsUtf8 text → IsNoBeginning (get_or text 0 0) → symbol_at text ≡ None → IsRun is_continuation (drop 1 text) run rest → IsFault text codes_of.BadCharacter (length text - length rest) rest
 one_character text run rest h ([], u) n f r = absurd (omega (arith, ap length u.1))
 one_character text run rest h (c ∷ cs, u) n f r =
     let b = bytes_of c (shape c) in
@@ -81,5 +81,5 @@ one_character text run rest h (c ∷ cs, u) n f r =
     let rest_is = (run_is is_continuation (drop 1 text) run rest b.more others r (subst (λ xs. IsRun is_continuation xs b.more others) (sym after) own)).1 in
     let whole : text ≡ encode_utf8 c ++ rest = sym u.1 ∙ ap (λ xs. encode_utf8 c ++ xs) (sym rest_is) in
     let size : length (encode_utf8 c) ≡ length text - length rest = omega (arith, ap length whole, length-append (encode_utf8 c) rest) in
-    subst (λ k. Fails text codes_of.BadCharacter k rest) size
-    (Fails.bad_character c (and_parts (scalar c) (all_scalars cs) u.0).0 (other_first text rest c whole n f) whole)
+    subst (λ k. IsFault text codes_of.BadCharacter k rest) size
+    (IsFault.bad_character c (and_parts (scalar c) (all_scalars cs) u.0).0 (other_first text rest c whole n f) whole)

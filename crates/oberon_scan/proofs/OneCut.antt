@@ -18,12 +18,12 @@ use Rattle.oberon_scan.specs.declared.token.TokenKind.TheVariants as kinds
 use Rattle.oberon_scan.specs.declared.token.Symbol.{Symbol}
 use Rattle.oberon_scan.specs.declared.token.Symbol.TheVariants as symbols
 use Rattle.oberon_scan.specs.declared.token.Word.{Word}
-use Rattle.oberon_scan.specs.Runs.{quote, is_number_byte, is_suffix, is_string_byte, Begins, Ends, IsRun}
+use Rattle.oberon_scan.specs.Runs.{quote, is_number_byte, is_suffix, is_string_byte, HasFirst, LacksFirst, IsRun}
 use Rattle.oberon_scan.specs.Spelling.{spelling, symbol_text}
-use Rattle.oberon_scan.specs.Numbers.{number_of, signed, largest_decimal, largest_hexadecimal, largest_character}
+use Rattle.oberon_scan.specs.Numbers.{digits_value, signed, largest_decimal, largest_hexadecimal, largest_character}
 use Rattle.oberon_scan.specs.Comments.{opens_comment, closes_comment, Closes, StaysOpen}
 use Rattle.oberon_scan.specs.Finding.{find_word, pair_symbol, single_symbol, symbol_at}
-use Rattle.oberon_scan.specs.Lexis.{IsGap, IsName, IsNumber, IsQuoted, IsSymbol, IsOther, Reads, Fails, Cuts, part, fault_of, place_of}
+use Rattle.oberon_scan.specs.Lexis.{IsGap, IsName, IsNumber, IsQuoted, IsSymbol, IsOther, IsToken, IsFault, Cuts, part, fault_of, offset_of}
 use Rattle.oberon_scan.proofs.LongestRuns.{run_is}
 use Rattle.oberon_scan.proofs.Fronts.{symbol_some, found_first}
 use Rattle.oberon_scan.proofs.Spelled.{Spelled, spelled, word_again, word_found, no_pair_at_end, pair_found}
@@ -114,16 +114,16 @@ named (Some w) run rest = a_token (kinds.Word w) rest
 abbrev plain_number : List ℕ → List ℕ → Cut
 plain_number run rest =
     cond (list_all is_ascii_digit run)
-    (cond (leb (number_of 10 run) largest_decimal) (a_token (kinds.Integer (pos (number_of 10 run))) rest) (a_fault codes_of.NumberTooLarge (length run) rest))
+    (cond (leb (digits_value 10 run) largest_decimal) (a_token (kinds.Integer (pos (digits_value 10 run))) rest) (a_fault codes_of.NumberTooLarge (length run) rest))
     (a_fault codes_of.BadNumber (length run) rest)
 
 abbrev h_number : List ℕ → List ℕ → Cut
 h_number run rest =
-    cond (leb (number_of 16 run) largest_hexadecimal) (a_token (kinds.Integer (signed (number_of 16 run))) rest) (a_fault codes_of.NumberTooLarge (length run + 1) rest)
+    cond (leb (digits_value 16 run) largest_hexadecimal) (a_token (kinds.Integer (signed (digits_value 16 run))) rest) (a_fault codes_of.NumberTooLarge (length run + 1) rest)
 
 abbrev x_number : List ℕ → List ℕ → Cut
 x_number run rest =
-    cond (leb (number_of 16 run) largest_character) (a_token (kinds.Str (number_of 16 run ∷ [])) rest) (a_fault codes_of.NumberTooLarge (length run + 1) rest)
+    cond (leb (digits_value 16 run) largest_character) (a_token (kinds.Str (digits_value 16 run ∷ [])) rest) (a_fault codes_of.NumberTooLarge (length run + 1) rest)
 
 abbrev numbered : List ℕ → List ℕ → Cut
 numbered run [] = plain_number run []
@@ -156,7 +156,7 @@ cut (byte ∷ bytes) =
     (cond (opens_comment text) (commented (close_from 0 (drop 1 bytes)))
     (symbolic (symbol_at text) byte text)))))
 
-cut_blank : (text run rest : List ℕ) → Begins is_ascii_whitespace text → IsRun is_ascii_whitespace text run rest → cut text ≡ a_gap rest
+cut_blank : (text run rest : List ℕ) → HasFirst is_ascii_whitespace text → IsRun is_ascii_whitespace text run rest → cut text ≡ a_gap rest
 cut_blank [] run rest b r = absurd b
 cut_blank (byte ∷ bytes) run rest b r =
     cond-true _ _ _ b ∙ ap a_gap (front_is is_ascii_whitespace (byte ∷ bytes) run rest r).1
@@ -291,10 +291,10 @@ record Nothing (byte : ℕ) : Type 0 where
   begins : no_beginning byte ≡ true
   no_symbol : (s : Symbol) → get_or (symbol_text s) 0 0 ≢ byte
 
-begins_with : (c byte : ℕ) (text more : List ℕ) → text ≡ byte ∷ more → byte ≡ c → Begins (λ b. b == c) text
-begins_with c byte text more e f = subst (Begins (λ b. b == c)) (sym e) (eq-eqb byte c f)
+begins_with : (c byte : ℕ) (text more : List ℕ) → text ≡ byte ∷ more → byte ≡ c → HasFirst (λ b. b == c) text
+begins_with c byte text more e f = subst (HasFirst (λ b. b == c)) (sym e) (eq-eqb byte c f)
 
-no_first : (c : ℕ) (s : Symbol) → Spelled s → (Begins (λ b. b == c) (symbol_text s) → ⊥) → get_or (symbol_text s) 0 0 ≢ c
+no_first : (c : ℕ) (s : Symbol) → Spelled s → (HasFirst (λ b. b == c) (symbol_text s) → ⊥) → get_or (symbol_text s) 0 0 ≢ c
 no_first c s (Spelled.alone a _ e _) h f = h (begins_with c a (symbol_text s) [] e (sym (ap (λ xs. get_or xs 0 0) e) ∙ f))
 no_first c s (Spelled.paired a b _ _ _ e _ _) h f = h (begins_with c a (symbol_text s) (b ∷ []) e (sym (ap (λ xs. get_or xs 0 0) e) ∙ f))
 
@@ -362,35 +362,35 @@ no_word_is run h = go (find_word run) refl
     go None e = refl
     go (Some w) e = absurd (h w (word_found run w e))
 
-plain_is : (run rest : List ℕ) → Ends is_suffix rest → numbered run rest ≡ plain_number run rest
+plain_is : (run rest : List ℕ) → LacksFirst is_suffix rest → numbered run rest ≡ plain_number run rest
 plain_is run [] e = refl
 plain_is run (byte ∷ rest) e =
     let p = or_parts (eqb byte 72) (eqb byte 88) e in
     cond-false _ _ _ p.0 ∙ cond-false _ _ _ p.1
 
-token_is : {text rest : List ℕ} {kind : TokenKind} → Reads text kind rest → cut text ≡ a_token kind rest
-token_is {text} {rest} (Reads.word w n) = cut_name text (spelling w) rest n ∙ ap (λ o. named o (spelling w) rest) (word_again w)
-token_is {text} {rest} (Reads.name run n h) = cut_name text run rest n ∙ ap (λ o. named o run rest) (no_word_is run h)
-token_is {text} {rest} (Reads.decimal run n e d h) =
-    cut_number text run rest n ∙ (plain_is run rest e ∙ (cond-true _ _ _ d ∙ cond-true _ _ _ (le-leb (number_of 10 run) largest_decimal h)))
-token_is {text} {rest} (Reads.hexadecimal run n h) = cut_number text run (72 ∷ rest) n ∙ cond-true _ _ _ (le-leb (number_of 16 run) largest_hexadecimal h)
-token_is {text} {rest} (Reads.character run n h) = cut_number text run (88 ∷ rest) n ∙ cond-true _ _ _ (le-leb (number_of 16 run) largest_character h)
-token_is {text} {rest} (Reads.string run q) = cut_quoted text run (quote ∷ rest) q
-token_is {text} {rest} (Reads.symbol s h) = cut_a_symbol text rest s h
+token_is : {text rest : List ℕ} {kind : TokenKind} → IsToken text kind rest → cut text ≡ a_token kind rest
+token_is {text} {rest} (IsToken.word w n) = cut_name text (spelling w) rest n ∙ ap (λ o. named o (spelling w) rest) (word_again w)
+token_is {text} {rest} (IsToken.name run n h) = cut_name text run rest n ∙ ap (λ o. named o run rest) (no_word_is run h)
+token_is {text} {rest} (IsToken.decimal run n e d h) =
+    cut_number text run rest n ∙ (plain_is run rest e ∙ (cond-true _ _ _ d ∙ cond-true _ _ _ (le-leb (digits_value 10 run) largest_decimal h)))
+token_is {text} {rest} (IsToken.hexadecimal run n h) = cut_number text run (72 ∷ rest) n ∙ cond-true _ _ _ (le-leb (digits_value 16 run) largest_hexadecimal h)
+token_is {text} {rest} (IsToken.character run n h) = cut_number text run (88 ∷ rest) n ∙ cond-true _ _ _ (le-leb (digits_value 16 run) largest_character h)
+token_is {text} {rest} (IsToken.string run q) = cut_quoted text run (quote ∷ rest) q
+token_is {text} {rest} (IsToken.symbol s h) = cut_a_symbol text rest s h
 
-open_is : (run rest : List ℕ) → Ends (λ b. b == quote) rest → quoted run rest ≡ a_fault codes_of.OpenString (1 + length run) rest
+open_is : (run rest : List ℕ) → LacksFirst (λ b. b == quote) rest → quoted run rest ≡ a_fault codes_of.OpenString (1 + length run) rest
 open_is run [] e = refl
 open_is run (byte ∷ rest) e = cond-false _ _ _ e
 
-fault_is : {text rest : List ℕ} {code : Code} {n : ℕ} → Fails text code n rest → cut text ≡ a_fault code n rest
-fault_is {text} {rest} (Fails.bad_character c _ h e) = cut_other text rest c e h
-fault_is {text} (Fails.open_comment body e h) = cut_comment text body e ∙ ap commented (stays_is h 0 refl)
-fault_is {text} {rest} (Fails.open_string run q e) = cut_quoted text run rest q ∙ open_is run rest e
-fault_is {text} {rest} (Fails.bad_number run n e d) = cut_number text run rest n ∙ (plain_is run rest e ∙ cond-false _ _ _ d)
-fault_is {text} {rest} (Fails.large_decimal run n e d h) =
-    cut_number text run rest n ∙ (plain_is run rest e ∙ (cond-true _ _ _ d ∙ cond-false _ _ _ (lt-leb (number_of 10 run) largest_decimal h)))
-fault_is {text} {rest} (Fails.large_hexadecimal run n h) = cut_number text run (72 ∷ rest) n ∙ cond-false _ _ _ (lt-leb (number_of 16 run) largest_hexadecimal h)
-fault_is {text} {rest} (Fails.large_character run n h) = cut_number text run (88 ∷ rest) n ∙ cond-false _ _ _ (lt-leb (number_of 16 run) largest_character h)
+fault_is : {text rest : List ℕ} {code : Code} {n : ℕ} → IsFault text code n rest → cut text ≡ a_fault code n rest
+fault_is {text} {rest} (IsFault.bad_character c _ h e) = cut_other text rest c e h
+fault_is {text} (IsFault.open_comment body e h) = cut_comment text body e ∙ ap commented (stays_is h 0 refl)
+fault_is {text} {rest} (IsFault.open_string run q e) = cut_quoted text run rest q ∙ open_is run rest e
+fault_is {text} {rest} (IsFault.bad_number run n e d) = cut_number text run rest n ∙ (plain_is run rest e ∙ cond-false _ _ _ d)
+fault_is {text} {rest} (IsFault.large_decimal run n e d h) =
+    cut_number text run rest n ∙ (plain_is run rest e ∙ (cond-true _ _ _ d ∙ cond-false _ _ _ (lt-leb (digits_value 10 run) largest_decimal h)))
+fault_is {text} {rest} (IsFault.large_hexadecimal run n h) = cut_number text run (72 ∷ rest) n ∙ cond-false _ _ _ (lt-leb (digits_value 16 run) largest_hexadecimal h)
+fault_is {text} {rest} (IsFault.large_character run n h) = cut_number text run (88 ∷ rest) n ∙ cond-false _ _ _ (lt-leb (digits_value 16 run) largest_character h)
 
 -- what follows in a cut, by what stands first
 at_end : {text rest : List ℕ} {ts : List Token} {ds : List Diagnostic} → Cuts text rest ts ds → cut rest ≡ nothing → (ts ≡ []) × (ds ≡ [])
@@ -429,7 +429,7 @@ after_token kind after (Cuts.fault code n f _) e = absurd (cc (fault_is f))
 
 record AfterFault (text rest after : List ℕ) (code : Code) (n : ℕ) (ts : List Token) (ds : List Diagnostic) : Type 0 where
   others : List Diagnostic
-  are : ds ≡ fault_of text (place_of text rest) code n ∷ others
+  are : ds ≡ fault_of text (offset_of text rest) code n ∷ others
   cuts : Cuts text after ts others
 
 after_fault : {text rest : List ℕ} {ts : List Token} {ds : List Diagnostic} (code : Code) (n : ℕ) (after : List ℕ) → Cuts text rest ts ds → cut rest ≡ a_fault code n after → AfterFault text rest after code n ts ds
@@ -443,7 +443,7 @@ after_fault {text} code n after (Cuts.fault {rest = rest} {after = next} {ts = t
     let same : next ≡ after = cc in
     record {
       others = ds;
-      are = ap (λ x. fault_of text (place_of text rest) x m ∷ ds) same_code ∙ ap (λ x. fault_of text (place_of text rest) code x ∷ ds) same_size;
+      are = ap (λ x. fault_of text (offset_of text rest) x m ∷ ds) same_code ∙ ap (λ x. fault_of text (offset_of text rest) code x ∷ ds) same_size;
       cuts = subst (λ xs. Cuts text xs ts ds) same k;
     }
 
@@ -459,4 +459,4 @@ one_cut {text} (Cuts.token {rest = rest} {after = after} kind r k) b =
 one_cut {text} (Cuts.fault {rest = rest} {after = after} code n f k) b =
     let t = after_fault code n after b (fault_is f) in
     let p = one_cut k t.cuts in
-    (p.0, ap (λ xs. fault_of text (place_of text rest) code n ∷ xs) p.1 ∙ sym t.are)
+    (p.0, ap (λ xs. fault_of text (offset_of text rest) code n ∷ xs) p.1 ∙ sym t.are)

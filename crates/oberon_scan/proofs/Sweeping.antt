@@ -13,8 +13,8 @@ use Rattle.ob_text.specs.Cursor.{Reached}
 use Rattle.oberon_scan.specs.declared.token.Token.{Token}
 use Rattle.oberon_scan.specs.declared.piece.Piece.{Piece}
 use Rattle.oberon_scan.specs.declared.piece.Piece.TheVariants as pieces
-use Rattle.oberon_scan.specs.Lexis.{Lex, Cuts, place_of, part, fault_of, without_mark}
-use Rattle.oberon_scan.specs.Piece.{IsPiece, IsShown, Adds}
+use Rattle.oberon_scan.specs.Lexis.{Lex, Cuts, offset_of, part, fault_of, without_mark}
+use Rattle.oberon_scan.specs.Piece.{CutsOff, IsWithinText, Adds}
 use Rattle.oberon_scan.proofs.Going.{piece_goes, fails_shown}
 
 pub record Swept (text rest : List ℕ) (ts : List Token) (ds : List Diagnostic) (cursor : Reached) : Type 0 where
@@ -22,13 +22,13 @@ pub record Swept (text rest : List ℕ) (ts : List Token) (ds : List Diagnostic)
   pub utf8 : IsUtf8 rest
   pub within : length rest ≤ length text
   pub text_is : cursor.text ≡ text
-  pub place_is : cursor.place ≤ place_of text rest
+  pub place_is : cursor.place ≤ offset_of text rest
 
 abbrev CutsSo : List ℕ → List Token → List Diagnostic → Type 0
 CutsSo text ts ds = Cuts text (without_mark text) ts ds
 
 -- one more piece
-add_cuts : (text rest after : List ℕ) (piece : Piece) (ts us : List Token) (ds es : List Diagnostic) → IsPiece rest piece after → Adds text piece (part text rest after) ts ds us es
+add_cuts : (text rest after : List ℕ) (piece : Piece) (ts us : List Token) (ds es : List Diagnostic) → CutsOff rest piece after → Adds text piece (part text rest after) ts ds us es
     → ((vs : List Token) (fs : List Diagnostic) → Cuts text rest vs fs → CutsSo text (ts ++ vs) (ds ++ fs))
     → (vs : List Token) (fs : List Diagnostic) → Cuts text after vs fs → CutsSo text (us ++ vs) (es ++ fs)
 add_cuts text rest after pieces.Gap ts us ds es p a so vs fs k =
@@ -39,18 +39,18 @@ add_cuts text rest after (pieces.Token kind) ts us ds es p a so vs fs k =
     let regrouped = subst (λ xs. CutsSo text xs (ds ++ fs)) (sym (append_assoc ts (token ∷ []) vs)) grown in
     subst (λ xs. CutsSo text (xs ++ vs) (es ++ fs)) (sym a.0) (subst (λ xs. CutsSo text ((ts ++ token ∷ []) ++ vs) (xs ++ fs)) (sym a.1) regrouped)
 add_cuts text rest after (pieces.Fault code n) ts us ds es p a so vs fs k =
-    let fault = fault_of text (place_of text rest) code n in
+    let fault = fault_of text (offset_of text rest) code n in
     let grown = so vs (fault ∷ fs) (Cuts.fault code n p k) in
     let regrouped = subst (λ xs. CutsSo text (ts ++ vs) xs) (sym (append_assoc ds (fault ∷ []) fs)) grown in
     subst (λ xs. CutsSo text (xs ++ vs) (es ++ fs)) (sym a.0) (subst (λ xs. CutsSo text (ts ++ vs) (xs ++ fs)) (sym a.1) regrouped)
 
-pub piece_shown : (text rest after : List ℕ) (piece : Piece) → length rest ≤ length text → IsPiece rest piece after → IsShown text piece (part text rest after)
+pub piece_shown : (text rest after : List ℕ) (piece : Piece) → length rest ≤ length text → CutsOff rest piece after → IsWithinText text piece (part text rest after)
 piece_shown text rest after pieces.Gap h p = tt
 piece_shown text rest after (pieces.Token kind) h p = tt
 piece_shown text rest after (pieces.Fault code n) h p = omega (arith, fails_shown p)
 
-pub sweeps_on : (text rest after : List ℕ) (piece : Piece) (ts us : List Token) (ds es : List Diagnostic) (c d : Reached) → Swept text rest ts ds c → IsPiece rest piece after → Adds text piece (part text rest after) ts ds us es
-    → d.text ≡ c.text → d.place ≤ place_of text rest → Swept text after us es d
+pub sweeps_on : (text rest after : List ℕ) (piece : Piece) (ts us : List Token) (ds es : List Diagnostic) (c d : Reached) → Swept text rest ts ds c → CutsOff rest piece after → Adds text piece (part text rest after) ts ds us es
+    → d.text ≡ c.text → d.place ≤ offset_of text rest → Swept text after us es d
 sweeps_on text rest after piece ts us ds es c d s p a same place =
     let g = piece_goes rest after piece p in
     record {
@@ -61,7 +61,7 @@ sweeps_on text rest after piece ts us ds es c d s p a same place =
       place_is = omega (arith, g.shorter, s.within, place);
     }
 
--- what follows a mark at place 0
+-- what follows a mark at offset 0
 after_mark : (text : List ℕ) → starts_with nat_eq text (0xEF ∷ 0xBB ∷ 0xBF ∷ []) ≡ true → IsUtf8 text → IsUtf8 (drop 3 text)
 unfolding encode_utf8
 after_mark text e u =

@@ -8,8 +8,8 @@ abbrev pub digit_of : ℕ → ℕ
 digit_of byte = if is_ascii_digit byte then byte - 48 else byte - 55
 
 -- the number that digits write in a base
-abbrev pub number_of : ℕ → List ℕ → ℕ
-number_of base digits = fold (λ number byte. number * base + digit_of byte) 0 digits
+abbrev pub digits_value : ℕ → List ℕ → ℕ
+digits_value base digits = fold (λ number byte. number * base + digit_of byte) 0 digits
 
 -- the largest number that may be written without H
 abbrev pub largest_decimal : ℕ

@@ -21,17 +21,17 @@ abbrev pub is_string_byte : ℕ → Bool
 is_string_byte byte = not (byte == quote) && not ((byte == 10) || (byte == 13))
 
 -- the text begins with a byte that passes
-abbrev pub Begins : (ℕ → Bool) → List ℕ → Type 0
-Begins test [] = ⊥
-Begins test (byte ∷ rest) = test byte ≡ true
+abbrev pub HasFirst : (ℕ → Bool) → List ℕ → Type 0
+HasFirst test [] = ⊥
+HasFirst test (byte ∷ rest) = test byte ≡ true
 
 -- the text is empty, or begins with a byte that fails
-abbrev pub Ends : (ℕ → Bool) → List ℕ → Type 0
-Ends test [] = Unit {0}
-Ends test (byte ∷ rest) = test byte ≡ false
+abbrev pub LacksFirst : (ℕ → Bool) → List ℕ → Type 0
+LacksFirst test [] = Unit {0}
+LacksFirst test (byte ∷ rest) = test byte ≡ false
 
 -- run is the longest front of the text in which each byte passes, and rest is what follows it
 pub record IsRun (test : ℕ → Bool) (text run rest : List ℕ) : Type 0 where
   pub whole : text ≡ run ++ rest
   pub each : list_all test run ≡ true
-  pub longest : Ends test rest
+  pub longest : LacksFirst test rest

@@ -1,4 +1,7 @@
-//! The tokens of an Oberon-07 text, by longest match.
+//! The lexis of Oberon-07 (The Programming Language Oberon-07, section 3): the tokens and the lexical faults of a
+//! module's text, each by longest match. It stands on `ob_text` for spans and diagnostics, and may know the
+//! characters and words of the language, and nothing of its grammar nor of the server. Begin reading at
+//! `specs/Lexis.antt`, which says how a text is cut, and at `scanned.rt`, where `scan` cuts it.
 #![tactic(auto)]
 
 mod comment;
@@ -7,8 +10,6 @@ mod piece;
 mod runs;
 mod scanned;
 mod symbol;
-#[cfg(test)]
-mod tests;
 mod token;
 mod word;
 

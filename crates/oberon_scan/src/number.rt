@@ -1,10 +1,10 @@
 ghost use Rattle.std.specs.Prelude.{◌≡◌, ◌≤◌, ◌<◌, ◌++◌, List, ℕ, IfOk, codes, min};
 ghost use Rattle.std.specs.Char.{is_ascii_digit};
 ghost use Rattle.std.specs.List.{list_all};
-ghost use Rattle.oberon_scan.specs.Runs.{Begins, Ends, is_suffix};
-ghost use Rattle.oberon_scan.specs.Numbers.{digit_of, number_of};
+ghost use Rattle.oberon_scan.specs.Runs.{HasFirst, LacksFirst, is_suffix};
+ghost use Rattle.oberon_scan.specs.Numbers.{digit_of, digits_value};
 ghost use Rattle.oberon_scan.specs.Lexis.{IsNumber};
-ghost use Rattle.oberon_scan.specs.Piece.{IsPiece};
+ghost use Rattle.oberon_scan.specs.Piece.{CutsOff};
 
 use crate::piece::Piece;
 use crate::runs::{NumberBytes, run_of};
@@ -17,8 +17,8 @@ const TOO_LARGE: u64 = 4_294_967_296;
 
 /// The number at the front of the text, and what follows it.
 pub(crate) fn number(alloc: Global, text: &[u8]) -> Result<(Piece, &[u8]), NoMemory>
-    requires { Begins is_ascii_digit text.now }
-    ensures { IfOk result (λ x. IsPiece text.now x.0 x.1.now) }
+    requires { HasFirst is_ascii_digit text.now }
+    ensures { IfOk result (λ x. CutsOff text.now x.0 x.1.now) }
 {
     let (run, after) = run_of::<NumberBytes>(text);
     match after {
@@ -30,7 +30,7 @@ pub(crate) fn number(alloc: Global, text: &[u8]) -> Result<(Piece, &[u8]), NoMem
 
 /// A number without a suffix.
 fn decimal(run: &[u8]) -> Piece
-    ensures { (text rest : List ℕ) → IsNumber text run.now rest → Ends is_suffix rest → IsPiece text result rest }
+    ensures { (text rest : List ℕ) → IsNumber text run.now rest → LacksFirst is_suffix rest → CutsOff text result rest }
 {
     if !is_decimal(run) {
         return Piece::Fault(Code::BadNumber, run.len());
@@ -52,7 +52,7 @@ fn is_decimal(run: &[u8]) -> bool
 
 /// A number in front of `H`.
 fn hexadecimal(run: &[u8]) -> Piece
-    ensures { (text rest : List ℕ) → IsNumber text run.now (codes "H" ++ rest) → IsPiece text result rest }
+    ensures { (text rest : List ℕ) → IsNumber text run.now (codes "H" ++ rest) → CutsOff text result rest }
 {
     let value = value_of(16, run);
     if value <= 4_294_967_295 {
@@ -65,7 +65,7 @@ fn hexadecimal(run: &[u8]) -> Piece
 /// A number in front of `X`: the string of this one byte.
 fn character(alloc: Global, run: &[u8]) -> Result<Piece, NoMemory>
     ensures { IfOk result (λ piece. (text rest : List ℕ) → IsNumber text run.now (codes "X" ++ rest)
-        → IsPiece text piece rest) }
+        → CutsOff text piece rest) }
 {
     let value = value_of(16, run);
     if value <= 255 {
@@ -79,7 +79,7 @@ fn character(alloc: Global, run: &[u8]) -> Result<Piece, NoMemory>
 fn value_of(base: u64, digits: &[u8]) -> u64
     requires some { 1 ≤ base }
     requires few { base ≤ 16 }
-    ensures { result ≡ min (number_of base digits.now) TOO_LARGE }
+    ensures { result ≡ min (digits_value base digits.now) TOO_LARGE }
 {
     let mut value = 0;
     for byte in digits {

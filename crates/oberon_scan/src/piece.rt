@@ -1,10 +1,10 @@
 ghost use Rattle.std.specs.Prelude.{◌≡◌, ◌<◌, ◌∷◌, ◌++◌, ◌==◌, List, ℕ, IfOk, None, false, codes, length, slice_index};
 ghost use Rattle.std.specs.Char.{is_ascii_alphabetic};
 ghost use Rattle.std.specs.Str.{IsUtf8};
-ghost use Rattle.oberon_scan.specs.Runs.{Begins, Ends, IsRun, is_string_byte, quote};
+ghost use Rattle.oberon_scan.specs.Runs.{HasFirst, LacksFirst, IsRun, is_string_byte, quote};
 ghost use Rattle.oberon_scan.specs.Comments.{opens_comment};
 ghost use Rattle.oberon_scan.specs.Finding.{symbol_at};
-ghost use Rattle.oberon_scan.specs.Piece.{IsPiece, IsNoBeginning};
+ghost use Rattle.oberon_scan.specs.Piece.{CutsOff, IsNoBeginning};
 
 use crate::comment::after_comment;
 use crate::number::number;
@@ -29,7 +29,7 @@ pub(crate) enum Piece {
 pub(crate) fn piece_at(alloc: Global, text: &[u8]) -> Result<(Piece, &[u8]), NoMemory>
     requires some { 0 < length text.now }
     requires utf8 { IsUtf8 text.now }
-    ensures { IfOk result (λ x. IsPiece text.now x.0 x.1.now) }
+    ensures { IfOk result (λ x. CutsOff text.now x.0 x.1.now) }
 {
     let first = text[0];
     if first.is_ascii_whitespace() {
@@ -49,8 +49,8 @@ pub(crate) fn piece_at(alloc: Global, text: &[u8]) -> Result<(Piece, &[u8]), NoM
 
 /// The reserved word or the name at the front of the text.
 fn name(alloc: Global, text: &[u8]) -> Result<(Piece, &[u8]), NoMemory>
-    requires { Begins is_ascii_alphabetic text.now }
-    ensures { IfOk result (λ x. IsPiece text.now x.0 x.1.now) }
+    requires { HasFirst is_ascii_alphabetic text.now }
+    ensures { IfOk result (λ x. CutsOff text.now x.0 x.1.now) }
 {
     let (run, rest) = run_of::<NameBytes>(text);
     match word_of(run) {
@@ -61,7 +61,7 @@ fn name(alloc: Global, text: &[u8]) -> Result<(Piece, &[u8]), NoMemory>
 
 /// The string whose opening quote stands before `line`.
 fn string(alloc: Global, line: &[u8]) -> Result<(Piece, &[u8]), NoMemory>
-    ensures { IfOk result (λ x. IsPiece (quote ∷ line.now) x.0 x.1.now) }
+    ensures { IfOk result (λ x. CutsOff (quote ∷ line.now) x.0 x.1.now) }
 {
     let (run, after) = run_of::<StringBytes>(line);
     match after {
@@ -72,21 +72,21 @@ fn string(alloc: Global, line: &[u8]) -> Result<(Piece, &[u8]), NoMemory>
 
 fn closed_string(alloc: Global, run: &[u8]) -> Result<Piece, NoMemory>
     ensures { IfOk result (λ piece. (line rest : List ℕ) → IsRun is_string_byte line run.now (quote ∷ rest)
-        → IsPiece (quote ∷ line) piece rest) }
+        → CutsOff (quote ∷ line) piece rest) }
 {
     Ok(Piece::Token(TokenKind::Str(Text::new(alloc, run)?)))
 }
 
 fn open_string(run: &[u8]) -> Piece
-    ensures { (line rest : List ℕ) → IsRun is_string_byte line run.now rest → Ends (λ byte. byte == quote) rest
-        → IsPiece (quote ∷ line) result rest }
+    ensures { (line rest : List ℕ) → IsRun is_string_byte line run.now rest → LacksFirst (λ byte. byte == quote) rest
+        → CutsOff (quote ∷ line) result rest }
 {
     Piece::Fault(Code::OpenString, 1 + run.len())
 }
 
 /// The comment whose `(*` stands before `body`.
 fn comment(body: &[u8]) -> (Piece, &[u8])
-    ensures { IsPiece (codes "(*" ++ body.now) result.0 result.1.now }
+    ensures { CutsOff (codes "(*" ++ body.now) result.0 result.1.now }
 {
     match after_comment(body) {
         Some(rest) => (Piece::Gap, rest),
@@ -100,7 +100,7 @@ fn symbol(text: &[u8]) -> (Piece, &[u8])
     requires utf8 { IsUtf8 text.now }
     requires first { IsNoBeginning (slice_index text.now 0) }
     requires no_comment { opens_comment text.now ≡ false }
-    ensures { IsPiece text.now result.0 result.1.now }
+    ensures { CutsOff text.now result.0 result.1.now }
 {
     match symbol_at(text) {
         Some(symbol) => (
@@ -117,7 +117,7 @@ fn bad_character(text: &[u8]) -> (Piece, &[u8])
     requires some { 0 < length text.now }
     requires first { IsNoBeginning (slice_index text.now 0) }
     requires no_symbol { symbol_at text.now ≡ None }
-    ensures { IsPiece text.now result.0 result.1.now }
+    ensures { CutsOff text.now result.0 result.1.now }
 {
     let (_, rest) = run_of::<Continuations>(text.split_at(1).1);
     (

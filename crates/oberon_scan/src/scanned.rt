@@ -1,9 +1,9 @@
-ghost use Rattle.std.specs.Prelude.{◌≡◌, ◌<◌, ◌≤◌, ◌^◌, ◌+◌, List, IfOk, OnOk, length};
+ghost use Rattle.std.specs.Prelude.{◌≡◌, ◌<◌, ◌≤◌, ◌+◌, List, IfOk, OnOk, length};
 ghost use Rattle.std.specs.Str.{IsUtf8};
 ghost use Rattle.ob_text.specs.declared.diagnostic.Diagnostic.{Diagnostic};
 ghost use Rattle.oberon_scan.specs.declared.token.Token.{Token};
-ghost use Rattle.oberon_scan.specs.Lexis.{Lex, without_mark, fault_of};
-ghost use Rattle.oberon_scan.specs.Piece.{Adds, IsShown};
+ghost use Rattle.oberon_scan.specs.Lexis.{Lex, without_mark, fault_of, too_many_bytes};
+ghost use Rattle.oberon_scan.specs.Piece.{Adds, IsWithinText};
 
 use crate::piece::{Piece, piece_at};
 use crate::token::Token;
@@ -21,7 +21,7 @@ pub struct Scanned {
 /// stops nothing: the text behind it is scanned too.
 pub fn scan(alloc: Global, text: &[u8]) -> Result<Scanned, NoMemory>
     requires utf8 { IsUtf8 text.now }
-    requires room { length text.now < 2 ^ 30 }
+    requires room { length text.now < too_many_bytes }
     ensures lex { IfOk result (λ scanned. Lex text.now scanned.tokens.items scanned.faults.items) }
     // The text can be cut in no other way.
     ensures only { IfOk result (λ scanned. (tokens : List Token) (faults : List Diagnostic) → Lex text.now tokens faults
@@ -49,8 +49,8 @@ impl Scanned {
     /// Adds what stands at a part of the text.
     fn add(&mut self, cursor: &mut Cursor<'_>, piece: Piece, span: Span) -> Result<(), NoMemory>
         requires forward { cursor.old.place ≤ span.start }
-        requires shown { IsShown cursor.old.text piece span }
-        requires room { length cursor.old.text < 2 ^ 30 }
+        requires shown { IsWithinText cursor.old.text piece span }
+        requires room { length cursor.old.text < too_many_bytes }
         ensures adds { OnOk result (Adds cursor.old.text piece span self.old.tokens.items self.old.faults.items
             self.new.tokens.items self.new.faults.items) }
         ensures text { cursor.new.text ≡ cursor.old.text }
@@ -71,7 +71,7 @@ impl Scanned {
 fn fault_at(cursor: &mut Cursor<'_>, start: u32, shown: usize, code: Code) -> Diagnostic
     requires forward { cursor.old.place ≤ start }
     requires shown { start + shown ≤ length cursor.old.text }
-    requires room { length cursor.old.text < 2 ^ 30 }
+    requires room { length cursor.old.text < too_many_bytes }
     ensures fault { result ≡ fault_of cursor.old.text start code shown }
     ensures text { cursor.new.text ≡ cursor.old.text }
     ensures place { cursor.new.place ≡ start }

@@ -35,7 +35,7 @@ use Rattle.oberon_tree.specs.declared.expression.Relator.{Relator}
 use Rattle.oberon_tree.specs.declared.expression.AddOperator.{AddOperator}
 use Rattle.oberon_tree.specs.declared.expression.Signed.{Signed}
 use Rattle.oberon_tree.specs.Memory.{expr_tree, relation_held, relation_tree, simple_tree, addends_row, addend_before, term_tree, multipliers_row, factor_tree, set_tree, elements_held, elements_tree, more_elements_row, element_before, element_tree, upper_held, upper_tree, selectors_row, selector_tree, arguments_held, exprs_tree, more_exprs_row, expr_before, relation_option, addends_list, multipliers_list, elements_option, more_elements_list, upper_option, selectors_list, designator_tree, arguments_option, more_exprs_list}
-use Rattle.oberon_tree.specs.Trees.{expr_of, relation_of, simple_of, AddendsTree, more_addends, term_of, more_multipliers, place_factor, set_of, some_elements, MoreElementsTree, more_elements, element_of, upper_of, designator_of, more_selectors, call_selector, exprs_of, MoreExprsTree, more_exprs}
+use Rattle.oberon_tree.specs.Trees.{expr_of, relation_of, simple_of, AddendsTree, more_addends, term_of, more_multipliers, designator_factor, set_of, some_elements, MoreElementsTree, more_elements, element_of, upper_of, designator_of, more_selectors, call_selector, exprs_of, MoreExprsTree, more_exprs}
 
 -- a row is the list of its items
 addends_items : {m : _} (row : Row_of-Addend m) → addends_row row ≡ addends_list (items-the_row-Addend _ row)
@@ -48,7 +48,7 @@ addends_hidden v = addends_items (hidden-the_row-Addend-3 v) ∙ ap addends_list
 -- a row is the list of its items
 multipliers_items : {m : _} (row : Row_of-Multiplier m) → multipliers_row row ≡ multipliers_list (items-the_row-Multiplier _ row)
 multipliers_items end_of-Multiplier = refl
-multipliers_items (more_of-Multiplier op place f row) = ap (more_multipliers op place (factor_tree f)) (multipliers_items row)
+multipliers_items (more_of-Multiplier op span f row) = ap (more_multipliers op span (factor_tree f)) (multipliers_items row)
 
 pub multipliers_hidden : (v : Vec Multiplier Global) → multipliers_row (hidden-the_row-Multiplier-4 v) ≡ multipliers_list v.items
 multipliers_hidden v = multipliers_items (hidden-the_row-Multiplier-4 v) ∙ ap multipliers_list (items_hidden-the_row-Multiplier-4 v)
@@ -114,9 +114,9 @@ simple_made sign' first' rest' = ap (simple_of sign' (term_tree first')) (addend
 pub simple_out : (x : Simple) → simple_tree x ≡ simple_of (out-Simple x).sign (term_tree (out-Simple x).first) (addends_list (out-Simple x).rest.items)
 simple_out x = ap simple_tree (sym (roll-out-Simple x)) ∙ simple_made _ _ _
 
-pub addend_made : (op : AddOperator) (place : Span) (t : Term) (more : AddendsTree) → addend_before (roll-Addend (record { operator = op; span = place; term = t })) more ≡ more_addends op place (term_tree t) more
+pub addend_made : (op : AddOperator) (span : Span) (t : Term) (more : AddendsTree) → addend_before (roll-Addend (record { operator = op; span = span; term = t })) more ≡ more_addends op span (term_tree t) more
 unfolding roll-Addend roll
-addend_made op place t more = refl
+addend_made op span t more = refl
 
 pub addend_out : (x : Addend) (more : AddendsTree) → addend_before x more ≡ more_addends (out-Addend x).operator (out-Addend x).span (term_tree (out-Addend x).term) more
 addend_out x more = ap (λ y. addend_before y more) (sym (roll-out-Addend x)) ∙ addend_made _ _ _ more
@@ -177,8 +177,8 @@ next_expr_made comma' e more = refl
 pub next_expr_out : (x : NextExpr) (more : MoreExprsTree) → expr_before x more ≡ more_exprs (out-NextExpr x).comma (expr_tree (out-NextExpr x).expr) more
 next_expr_out x more = ap (λ y. expr_before y more) (sym (roll-out-NextExpr x)) ∙ next_expr_made _ _ more
 
-pub place_held : (d : Designator) → factor_tree (factors.Designator d) ≡ place_factor (designator_tree d)
-place_held d = ap (λ y. place_factor (designator_of d.name y)) (selectors_hidden d.selectors)
+pub designator_held : (d : Designator) → factor_tree (factors.Designator d) ≡ designator_factor (designator_tree d)
+designator_held d = ap (λ y. designator_factor (designator_of d.name y)) (selectors_hidden d.selectors)
 
 pub call_held : (a : Span) (o : Option (Box Exprs Global)) (b : Span) → selector_tree (selectors.Call a o b) ≡ call_selector a (arguments_option o) b
 call_held a o b = ap (λ y. call_selector a y b) (arguments_back o)

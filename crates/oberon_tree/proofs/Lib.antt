@@ -1,4 +1,5 @@
 pub mod ExpressionMemory
 pub mod FirstTokens
+pub mod LastTokens
 pub mod StatementMemory
 pub mod TypeMemory

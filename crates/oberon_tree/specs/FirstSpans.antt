@@ -1,16 +1,16 @@
--- The place of the first token of a construct, where many diagnostics stand.
+-- The span of the first token of a construct, where many diagnostics stand.
 use Rattle.std.specs.Prelude.{List, [], ◌∷◌, Option, Some, None}
 use Rattle.ob_text.specs.declared.span.Span.{Span}
 use Rattle.oberon_scan.specs.declared.token.Token.{Token}
 use Rattle.oberon_tree.specs.declared.statement.Label.{Label}
 use Rattle.oberon_tree.specs.declared.statement.LabelValue.{LabelValue}
 use Rattle.oberon_tree.specs.declared.statement.LabelValue.TheVariants as values
-use Rattle.oberon_tree.specs.Trees.{ExprTree, expr_of, SimpleTree, simple_of, TermTree, term_of, FactorTree, integer_factor, string_factor, true_factor, false_factor, set_factor, place_factor, group_factor, negation_factor, SetTree, set_of, DesignatorTree, designator_of, TypeTree, named_type, array_type, record_type, RecordTree, record_of}
+use Rattle.oberon_tree.specs.Trees.{ExprTree, expr_of, SimpleTree, simple_of, TermTree, term_of, FactorTree, integer_factor, string_factor, true_factor, false_factor, set_factor, designator_factor, group_factor, negation_factor, SetTree, set_of, DesignatorTree, designator_of, TypeTree, named_type, array_type, record_type, RecordTree, record_of}
 
--- the place of the first token of a list
-abbrev pub first_place : List Token → Option Span
-first_place [] = None
-first_place (t ∷ ts) = Some t.span
+-- the span of the first token of a list
+abbrev pub first_token_span : List Token → Option Span
+first_token_span [] = None
+first_token_span (t ∷ ts) = Some t.span
 
 abbrev pub first_of_set : SetTree → Span
 first_of_set (set_of a es b) = a
@@ -21,12 +21,12 @@ first_of_designator (designator_of name more) = name.span
 abbrev pub first_of_factor : FactorTree → Span
 first_of_factor (integer_factor n) = n.span
 first_of_factor (string_factor s) = s.span
-first_of_factor (true_factor place) = place
-first_of_factor (false_factor place) = place
+first_of_factor (true_factor span) = span
+first_of_factor (false_factor span) = span
 first_of_factor (set_factor s) = first_of_set s
-first_of_factor (place_factor d) = first_of_designator d
+first_of_factor (designator_factor d) = first_of_designator d
 first_of_factor (group_factor a e b) = a
-first_of_factor (negation_factor place f) = place
+first_of_factor (negation_factor span f) = span
 
 abbrev pub first_of_term : TermTree → Span
 first_of_term (term_of first more) = first_of_factor first

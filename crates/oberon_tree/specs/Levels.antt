@@ -4,7 +4,7 @@
 -- UNTIL, the name behind a procedure's END. The '(' of formal parameters and of a record's base opens
 -- none. `depth_of_x` is the number of levels inside which the deepest token of an x stands.
 use Rattle.std.specs.Prelude.{ℕ, suc, max, List, [], ◌∷◌, Option, Some, None, length}
-use Rattle.oberon_tree.specs.Trees.{ExprTree, expr_of, RelationTree, no_relation, relation_of, SimpleTree, simple_of, AddendsTree, no_addends, more_addends, TermTree, term_of, MultipliersTree, no_multipliers, more_multipliers, FactorTree, integer_factor, string_factor, true_factor, false_factor, set_factor, place_factor, group_factor, negation_factor, SetTree, set_of, ElementsTree, no_elements, some_elements, MoreElementsTree, no_more_elements, more_elements, ElementTree, element_of, UpperTree, no_upper, upper_of, DesignatorTree, designator_of, SelectorsTree, no_selectors, more_selectors, SelectorTree, field_selector, index_selector, call_selector, ArgumentsTree, no_arguments, some_arguments, ExprsTree, exprs_of, MoreExprsTree, no_more_exprs, more_exprs}
+use Rattle.oberon_tree.specs.Trees.{ExprTree, expr_of, RelationTree, no_relation, relation_of, SimpleTree, simple_of, AddendsTree, no_addends, more_addends, TermTree, term_of, MultipliersTree, no_multipliers, more_multipliers, FactorTree, integer_factor, string_factor, true_factor, false_factor, set_factor, designator_factor, group_factor, negation_factor, SetTree, set_of, ElementsTree, no_elements, some_elements, MoreElementsTree, no_more_elements, more_elements, ElementTree, element_of, UpperTree, no_upper, upper_of, DesignatorTree, designator_of, SelectorsTree, no_selectors, more_selectors, SelectorTree, field_selector, index_selector, call_selector, ArgumentsTree, no_arguments, some_arguments, ExprsTree, exprs_of, MoreExprsTree, no_more_exprs, more_exprs}
 use Rattle.oberon_tree.specs.Trees.{TypeTree, named_type, array_type, record_type, RecordTree, record_of, FieldListsTree, no_fields, some_fields, MoreFieldsTree, no_more_fields, more_fields, FieldsTree, fields_of}
 use Rattle.oberon_tree.specs.Trees.{StepTree, no_step, step_of, StatementsTree, statements_of, MoreStatementsTree, no_more_statements, more_statements, StatementTree, empty_statement, assign_statement, call_statement, if_statement, case_statement, while_statement, repeat_statement, for_statement, IfTree, if_of, GuardedTree, guarded_of, ElsifsTree, no_elsifs, more_elsifs, ElseTree, no_else, else_of, CaseTree, case_of, ArmTree, empty_arm, labelled_arm, MoreArmsTree, no_more_arms, more_arms, WhileTree, while_of, RepeatTree, repeat_of, ForTree, for_of}
 use Rattle.oberon_tree.specs.Trees.{ConstantTree, ConstantsTree, TypeDeclarationTree, TypesTree, VariableTree, VariablesTree, DeclarationsTree, LocalConstantTree, LocalConstantsTree, LocalVariableTree, LocalVariablesTree, LocalsTree, FormalTypeTree, SectionTree, NextSectionTree, SectionsTree, FormalsTree, BodyTree, ReturnTree, ProcedureTree, ProcedureItemTree, ModuleTree}
@@ -25,31 +25,31 @@ abbrev mutual
 
   pub depth_of_relation : RelationTree → ℕ
   depth_of_relation no_relation = 0
-  depth_of_relation (relation_of op place right) = depth_of_simple right
+  depth_of_relation (relation_of op span right) = depth_of_simple right
 
   pub depth_of_simple : SimpleTree → ℕ
   depth_of_simple (simple_of sign first more) = max (depth_of_term first) (depth_of_addends more)
 
   pub depth_of_addends : AddendsTree → ℕ
   depth_of_addends no_addends = 0
-  depth_of_addends (more_addends op place t more) = max (depth_of_term t) (depth_of_addends more)
+  depth_of_addends (more_addends op span t more) = max (depth_of_term t) (depth_of_addends more)
 
   pub depth_of_term : TermTree → ℕ
   depth_of_term (term_of first more) = max (depth_of_factor first) (depth_of_multipliers more)
 
   pub depth_of_multipliers : MultipliersTree → ℕ
   depth_of_multipliers no_multipliers = 0
-  depth_of_multipliers (more_multipliers op place f more) = max (depth_of_factor f) (depth_of_multipliers more)
+  depth_of_multipliers (more_multipliers op span f more) = max (depth_of_factor f) (depth_of_multipliers more)
 
   pub depth_of_factor : FactorTree → ℕ
   depth_of_factor (integer_factor n) = 0
   depth_of_factor (string_factor s) = 0
-  depth_of_factor (true_factor place) = 0
-  depth_of_factor (false_factor place) = 0
+  depth_of_factor (true_factor span) = 0
+  depth_of_factor (false_factor span) = 0
   depth_of_factor (set_factor s) = depth_of_set s
-  depth_of_factor (place_factor d) = depth_of_designator d
+  depth_of_factor (designator_factor d) = depth_of_designator d
   depth_of_factor (group_factor a e b) = suc (depth_of_expr e)
-  depth_of_factor (negation_factor place f) = suc (depth_of_factor f)
+  depth_of_factor (negation_factor span f) = suc (depth_of_factor f)
 
   pub depth_of_set : SetTree → ℕ
   depth_of_set (set_of a es b) = suc (depth_of_elements es)

@@ -1,10 +1,7 @@
-pub mod Codes
-pub mod ExpressionCodes
 pub mod FirstSpans
-pub mod LeafCodes
 pub mod Levels
 pub mod Memory
 pub mod Print
-pub mod StatementCodes
+pub mod Spans
 pub mod Tokens
 pub mod Trees

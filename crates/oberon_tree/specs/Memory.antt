@@ -69,7 +69,8 @@ use Rattle.oberon_tree.specs.declared.module.Procedure.{Procedure}
 use Rattle.oberon_tree.specs.declared.module.ProcedureItem.{ProcedureItem}
 use Rattle.oberon_tree.specs.declared.module.Imports.{Imports}
 use Rattle.oberon_tree.specs.declared.module.Module.{Module}
-use Rattle.oberon_tree.specs.Trees.{IdentDefsTree, IdentsTree, ExprTree, expr_of, RelationTree, no_relation, relation_of, SimpleTree, simple_of, AddendsTree, no_addends, more_addends, TermTree, term_of, MultipliersTree, no_multipliers, more_multipliers, FactorTree, integer_factor, string_factor, true_factor, false_factor, set_factor, place_factor, group_factor, negation_factor, SetTree, set_of, ElementsTree, no_elements, some_elements, MoreElementsTree, no_more_elements, more_elements, ElementTree, element_of, UpperTree, no_upper, upper_of, DesignatorTree, designator_of, SelectorsTree, no_selectors, more_selectors, SelectorTree, field_selector, index_selector, call_selector, ArgumentsTree, no_arguments, some_arguments, ExprsTree, exprs_of, MoreExprsTree, no_more_exprs, more_exprs}
+use Rattle.oberon_tree.specs.declared.tree.Tree.{Tree}
+use Rattle.oberon_tree.specs.Trees.{IdentDefsTree, IdentsTree, ExprTree, expr_of, RelationTree, no_relation, relation_of, SimpleTree, simple_of, AddendsTree, no_addends, more_addends, TermTree, term_of, MultipliersTree, no_multipliers, more_multipliers, FactorTree, integer_factor, string_factor, true_factor, false_factor, set_factor, designator_factor, group_factor, negation_factor, SetTree, set_of, ElementsTree, no_elements, some_elements, MoreElementsTree, no_more_elements, more_elements, ElementTree, element_of, UpperTree, no_upper, upper_of, DesignatorTree, designator_of, SelectorsTree, no_selectors, more_selectors, SelectorTree, field_selector, index_selector, call_selector, ArgumentsTree, no_arguments, some_arguments, ExprsTree, exprs_of, MoreExprsTree, no_more_exprs, more_exprs}
 use Rattle.oberon_tree.specs.Trees.{TypeTree, named_type, array_type, record_type, RecordTree, record_of, FieldListsTree, no_fields, some_fields, MoreFieldsTree, no_more_fields, more_fields, FieldsTree, fields_of}
 use Rattle.oberon_tree.specs.Trees.{LabelsTree, StepTree, no_step, step_of, StatementsTree, statements_of, MoreStatementsTree, no_more_statements, more_statements, StatementTree, empty_statement, assign_statement, call_statement, if_statement, case_statement, while_statement, repeat_statement, for_statement, IfTree, if_of, GuardedTree, guarded_of, ElsifsTree, no_elsifs, more_elsifs, ElseTree, no_else, else_of, CaseTree, case_of, ArmTree, empty_arm, labelled_arm, MoreArmsTree, no_more_arms, more_arms, WhileTree, while_of, RepeatTree, repeat_of, ForTree, for_of}
 use Rattle.oberon_tree.specs.Trees.{ConstantTree, ConstantsTree, TypeDeclarationTree, TypesTree, VariableTree, VariablesTree, DeclarationsTree, LocalConstantTree, LocalConstantsTree, LocalVariableTree, LocalVariablesTree, LocalsTree, FormalTypeTree, SectionTree, NextSectionTree, SectionsTree, FormalsTree, BodyTree, ReturnTree, ProcedureTree, ProcedureItemTree, ImportsTree, ModuleTree}
@@ -93,7 +94,7 @@ abbrev mutual
   relation_held (Expr-relation-Some' p r) = relation_tree r
 
   pub relation_tree : Relation → RelationTree
-  relation_tree (Relation' op place right) = relation_of op place (simple_tree right)
+  relation_tree (Relation' op span right) = relation_of op span (simple_tree right)
 
   pub simple_tree : Simple → SimpleTree
   simple_tree (Simple' sign first shape row) = simple_of sign (term_tree first) (addends_row row)
@@ -103,24 +104,24 @@ abbrev mutual
   addends_row (more_of-Addend x row) = addend_before x (addends_row row)
 
   pub addend_before : Addend → AddendsTree → AddendsTree
-  addend_before (Addend' op place t) more = more_addends op place (term_tree t) more
+  addend_before (Addend' op span t) more = more_addends op span (term_tree t) more
 
   pub term_tree : Term → TermTree
   term_tree (Term' first shape row) = term_of (factor_tree first) (multipliers_row row)
 
   pub multipliers_row : {m : _} → Row_of-Multiplier m → MultipliersTree
   multipliers_row end_of-Multiplier = no_multipliers
-  multipliers_row (more_of-Multiplier op place f row) = more_multipliers op place (factor_tree f) (multipliers_row row)
+  multipliers_row (more_of-Multiplier op span f row) = more_multipliers op span (factor_tree f) (multipliers_row row)
 
   pub factor_tree : Factor → FactorTree
   factor_tree (factors.Integer n) = integer_factor n
   factor_tree (factors.Str s) = string_factor s
-  factor_tree (factors.True place) = true_factor place
-  factor_tree (factors.False place) = false_factor place
+  factor_tree (factors.True span) = true_factor span
+  factor_tree (factors.False span) = false_factor span
   factor_tree (factors.Set s) = set_factor (set_tree s)
-  factor_tree (factors.Designator' name shape row) = place_factor (designator_of name (selectors_row row))
+  factor_tree (factors.Designator' name shape row) = designator_factor (designator_of name (selectors_row row))
   factor_tree (factors.Group' a p e b) = group_factor a (expr_tree e) b
-  factor_tree (factors.Not' place p f) = negation_factor place (factor_tree f)
+  factor_tree (factors.Not' span p f) = negation_factor span (factor_tree f)
 
   pub set_tree : Set → SetTree
   set_tree (Set' a es b) = set_of a (elements_held es) b
@@ -263,7 +264,7 @@ abbrev mutual
 
   pub statement_tree : Statement → StatementTree
   statement_tree statements.Empty = empty_statement
-  statement_tree (statements.Assignment b) = assign_statement (designator_tree b.value.place) b.value.becomes (expr_tree b.value.value)
+  statement_tree (statements.Assignment b) = assign_statement (designator_tree b.value.designator) b.value.becomes (expr_tree b.value.value)
   statement_tree (statements.Call d) = call_statement (designator_tree d)
   statement_tree (statements.If' p x) = if_statement (if_tree x)
   statement_tree (statements.Case' p x) = case_statement (case_tree x)
@@ -415,3 +416,7 @@ module_tree x = record {
   end_name = x.end_name;
   period = x.period;
 }
+
+-- the tree that is shared
+abbrev pub tree_of : Tree → ModuleTree
+tree_of t = module_tree t.root.value

@@ -25,7 +25,7 @@ use Rattle.oberon_tree.specs.declared.module.NextImport.{NextImport}
 use Rattle.oberon_tree.specs.declared.module.OpenArray.{OpenArray}
 use Rattle.oberon_tree.specs.declared.module.ResultType.{ResultType}
 use Rattle.oberon_tree.specs.Tokens.{symbol_token, word_token, ident_token, integer_token, string_token, relator_token, sign_token, add_token, mul_token}
-use Rattle.oberon_tree.specs.Trees.{IdentDefsTree, IdentsTree, ExprTree, expr_of, RelationTree, no_relation, relation_of, SimpleTree, simple_of, AddendsTree, no_addends, more_addends, TermTree, term_of, MultipliersTree, no_multipliers, more_multipliers, FactorTree, integer_factor, string_factor, true_factor, false_factor, set_factor, place_factor, group_factor, negation_factor, SetTree, set_of, ElementsTree, no_elements, some_elements, MoreElementsTree, no_more_elements, more_elements, ElementTree, element_of, UpperTree, no_upper, upper_of, DesignatorTree, designator_of, SelectorsTree, no_selectors, more_selectors, SelectorTree, field_selector, index_selector, call_selector, ArgumentsTree, no_arguments, some_arguments, ExprsTree, exprs_of, MoreExprsTree, no_more_exprs, more_exprs}
+use Rattle.oberon_tree.specs.Trees.{IdentDefsTree, IdentsTree, ExprTree, expr_of, RelationTree, no_relation, relation_of, SimpleTree, simple_of, AddendsTree, no_addends, more_addends, TermTree, term_of, MultipliersTree, no_multipliers, more_multipliers, FactorTree, integer_factor, string_factor, true_factor, false_factor, set_factor, designator_factor, group_factor, negation_factor, SetTree, set_of, ElementsTree, no_elements, some_elements, MoreElementsTree, no_more_elements, more_elements, ElementTree, element_of, UpperTree, no_upper, upper_of, DesignatorTree, designator_of, SelectorsTree, no_selectors, more_selectors, SelectorTree, field_selector, index_selector, call_selector, ArgumentsTree, no_arguments, some_arguments, ExprsTree, exprs_of, MoreExprsTree, no_more_exprs, more_exprs}
 use Rattle.oberon_tree.specs.Trees.{TypeTree, named_type, array_type, record_type, RecordTree, record_of, FieldListsTree, no_fields, some_fields, MoreFieldsTree, no_more_fields, more_fields, FieldsTree, fields_of}
 use Rattle.oberon_tree.specs.Trees.{LabelsTree, StepTree, no_step, step_of, StatementsTree, statements_of, MoreStatementsTree, no_more_statements, more_statements, StatementTree, empty_statement, assign_statement, call_statement, if_statement, case_statement, while_statement, repeat_statement, for_statement, IfTree, if_of, GuardedTree, guarded_of, ElsifsTree, no_elsifs, more_elsifs, ElseTree, no_else, else_of, CaseTree, case_of, ArmTree, empty_arm, labelled_arm, MoreArmsTree, no_more_arms, more_arms, WhileTree, while_of, RepeatTree, repeat_of, ForTree, for_of}
 use Rattle.oberon_tree.specs.Trees.{ConstantTree, ConstantsTree, TypeDeclarationTree, TypesTree, VariableTree, VariablesTree, DeclarationsTree, LocalConstantTree, LocalConstantsTree, LocalVariableTree, LocalVariablesTree, LocalsTree, FormalTypeTree, SectionTree, NextSectionTree, SectionsTree, FormalsTree, BodyTree, ReturnTree, ProcedureTree, ProcedureItemTree, ImportsTree, ModuleTree}
@@ -52,7 +52,7 @@ abbrev pub print_qualident : Qualident → List Token → List Token
 print_qualident q rest = ident_token q.first ∷ print_some print_member q.member rest
 
 abbrev pub print_mark : Span → List Token → List Token
-print_mark place rest = symbol_token symbols.Star place ∷ rest
+print_mark span rest = symbol_token symbols.Star span ∷ rest
 
 abbrev pub print_ident_def : IdentDef → List Token → List Token
 print_ident_def d rest = ident_token d.name ∷ print_some print_mark d.export rest
@@ -80,31 +80,31 @@ abbrev mutual
 
   pub print_relation : RelationTree → List Token → List Token
   print_relation no_relation rest = rest
-  print_relation (relation_of op place right) rest = relator_token op place ∷ print_simple right rest
+  print_relation (relation_of op span right) rest = relator_token op span ∷ print_simple right rest
 
   pub print_simple : SimpleTree → List Token → List Token
   print_simple (simple_of sign first more) rest = print_some print_sign sign (print_term first (print_addends more rest))
 
   pub print_addends : AddendsTree → List Token → List Token
   print_addends no_addends rest = rest
-  print_addends (more_addends op place t more) rest = add_token op place ∷ print_term t (print_addends more rest)
+  print_addends (more_addends op span t more) rest = add_token op span ∷ print_term t (print_addends more rest)
 
   pub print_term : TermTree → List Token → List Token
   print_term (term_of first more) rest = print_factor first (print_multipliers more rest)
 
   pub print_multipliers : MultipliersTree → List Token → List Token
   print_multipliers no_multipliers rest = rest
-  print_multipliers (more_multipliers op place f more) rest = mul_token op place ∷ print_factor f (print_multipliers more rest)
+  print_multipliers (more_multipliers op span f more) rest = mul_token op span ∷ print_factor f (print_multipliers more rest)
 
   pub print_factor : FactorTree → List Token → List Token
   print_factor (integer_factor n) rest = integer_token n ∷ rest
   print_factor (string_factor s) rest = string_token s ∷ rest
-  print_factor (true_factor place) rest = word_token words.True place ∷ rest
-  print_factor (false_factor place) rest = word_token words.False place ∷ rest
+  print_factor (true_factor span) rest = word_token words.True span ∷ rest
+  print_factor (false_factor span) rest = word_token words.False span ∷ rest
   print_factor (set_factor s) rest = print_set s rest
-  print_factor (place_factor d) rest = print_designator d rest
+  print_factor (designator_factor d) rest = print_designator d rest
   print_factor (group_factor a e b) rest = symbol_token symbols.OpenParen a ∷ print_expr e (symbol_token symbols.CloseParen b ∷ rest)
-  print_factor (negation_factor place f) rest = symbol_token symbols.Tilde place ∷ print_factor f rest
+  print_factor (negation_factor span f) rest = symbol_token symbols.Tilde span ∷ print_factor f rest
 
   pub print_set : SetTree → List Token → List Token
   print_set (set_of a es b) rest = symbol_token symbols.OpenBrace a ∷ print_elements es (symbol_token symbols.CloseBrace b ∷ rest)
@@ -294,7 +294,7 @@ abbrev pub print_formal_type : FormalTypeTree → List Token → List Token
 print_formal_type f rest = print_each print_open_array f.opens (print_qualident f.name rest)
 
 abbrev pub print_by_var : Span → List Token → List Token
-print_by_var place rest = word_token words.Var place ∷ rest
+print_by_var span rest = word_token words.Var span ∷ rest
 
 abbrev pub print_section : SectionTree → List Token → List Token
 print_section s rest = print_some print_by_var s.by_var (print_idents s.names (symbol_token symbols.Colon s.colon ∷ print_formal_type s.of_type rest))

@@ -20,10 +20,10 @@ use Rattle.oberon_tree.specs.declared.expression.MulOperator.{MulOperator}
 use Rattle.oberon_tree.specs.declared.expression.MulOperator.TheVariants as muls
 
 abbrev pub symbol_token : Symbol → Span → Token
-symbol_token symbol place = record { span = place; kind = kinds.Symbol symbol }
+symbol_token symbol span = record { span = span; kind = kinds.Symbol symbol }
 
 abbrev pub word_token : Word → Span → Token
-word_token word place = record { span = place; kind = kinds.Word word }
+word_token word span = record { span = span; kind = kinds.Word word }
 
 abbrev pub ident_token : Ident → Token
 ident_token i = record { span = i.span; kind = kinds.Ident i.name }
@@ -61,13 +61,13 @@ mul_kind muls.Mod = kinds.Word words.Mod
 mul_kind muls.And = kinds.Symbol symbols.Ampersand
 
 abbrev pub relator_token : Relator → Span → Token
-relator_token op place = record { span = place; kind = relator_kind op }
+relator_token op span = record { span = span; kind = relator_kind op }
 
 abbrev pub sign_token : Sign → Span → Token
-sign_token sign place = record { span = place; kind = sign_kind sign }
+sign_token sign span = record { span = span; kind = sign_kind sign }
 
 abbrev pub add_token : AddOperator → Span → Token
-add_token op place = record { span = place; kind = add_kind op }
+add_token op span = record { span = span; kind = add_kind op }
 
 abbrev pub mul_token : MulOperator → Span → Token
-mul_token op place = record { span = place; kind = mul_kind op }
+mul_token op span = record { span = span; kind = mul_kind op }

@@ -1,6 +1,6 @@
 -- The syntax trees of Oberon-07 as plain data: a module as the grammar has it, and nothing of how it
 -- lies in memory. Each construct has its parts in the order of its line in the grammar (The Programming
--- Language Oberon-07, sections 4 to 11), with the place of every token.
+-- Language Oberon-07, sections 4 to 11), with the span of every token.
 use Rattle.std.specs.Prelude.{List, Option}
 use Rattle.ob_text.specs.declared.span.Span.{Span}
 use Rattle.oberon_tree.specs.declared.leaf.Ident.{Ident}
@@ -69,7 +69,7 @@ mutual
     true_factor : Span → FactorTree
     false_factor : Span → FactorTree
     set_factor : SetTree → FactorTree
-    place_factor : DesignatorTree → FactorTree
+    designator_factor : DesignatorTree → FactorTree
     group_factor : Span → ExprTree → Span → FactorTree
     negation_factor : Span → FactorTree → FactorTree
 

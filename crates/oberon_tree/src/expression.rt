@@ -40,7 +40,7 @@ pub struct Simple {
     pub rest: Vec<Addend>,
 }
 
-/// A sign and its place.
+/// A sign and its span.
 #[derive(Clone, Copy, Debug)]
 pub struct Signed {
     pub sign: Sign,
@@ -175,7 +175,7 @@ pub enum Selector {
     Field(Member),
     Index {
         opening: Span,
-        places: Box<Exprs>,
+        indices: Box<Exprs>,
         closing: Span,
     },
     Call {

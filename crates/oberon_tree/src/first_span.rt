@@ -1,8 +1,8 @@
-//! The place of the first token of a construct.
+//! The span of the first token of a construct.
 ghost use Rattle.std.specs.Prelude.{◌≡◌, List, Some};
 ghost use Rattle.oberon_scan.specs.declared.token.Token.{Token as AnyToken};
 ghost use Rattle.oberon_tree.specs.Print.{print_expr, print_simple, print_term, print_factor, print_designator, print_type, print_label, print_value};
-ghost use Rattle.oberon_tree.specs.FirstSpans.{first_place, first_of_expr, first_of_simple, first_of_term, first_of_factor, first_of_designator, first_of_type, first_of_label, first_of_value};
+ghost use Rattle.oberon_tree.specs.FirstSpans.{first_token_span, first_of_expr, first_of_simple, first_of_term, first_of_factor, first_of_designator, first_of_type, first_of_label, first_of_value};
 ghost use Rattle.oberon_tree.specs.Memory.{expr_tree, simple_tree, term_tree, factor_tree, designator_tree, type_tree};
 
 use crate::expression::{Designator, Expr, Factor, Simple, Term};
@@ -11,22 +11,22 @@ use crate::types::Type;
 use ob_text::Span;
 
 impl Expr {
-    /// The place of the first token.
+    /// The span of the first token.
     pub fn first_span(&self) -> Span
         ensures value { result ≡ first_of_expr (expr_tree self.now) }
         ensures first { (rest : List AnyToken)
-            → first_place (print_expr (expr_tree self.now) rest) ≡ Some result }
+            → first_token_span (print_expr (expr_tree self.now) rest) ≡ Some result }
     {
         self.left.first_span()
     }
 }
 
 impl Simple {
-    /// The place of the first token.
+    /// The span of the first token.
     pub fn first_span(&self) -> Span
         ensures value { result ≡ first_of_simple (simple_tree self.now) }
         ensures first { (rest : List AnyToken)
-            → first_place (print_simple (simple_tree self.now) rest) ≡ Some result }
+            → first_token_span (print_simple (simple_tree self.now) rest) ≡ Some result }
     {
         match self.sign {
             Some(sign) => sign.span,
@@ -36,22 +36,22 @@ impl Simple {
 }
 
 impl Term {
-    /// The place of the first token.
+    /// The span of the first token.
     pub fn first_span(&self) -> Span
         ensures value { result ≡ first_of_term (term_tree self.now) }
         ensures first { (rest : List AnyToken)
-            → first_place (print_term (term_tree self.now) rest) ≡ Some result }
+            → first_token_span (print_term (term_tree self.now) rest) ≡ Some result }
     {
         self.first.first_span()
     }
 }
 
 impl Factor {
-    /// The place of the first token.
+    /// The span of the first token.
     pub fn first_span(&self) -> Span
         ensures value { result ≡ first_of_factor (factor_tree self.now) }
         ensures first { (rest : List AnyToken)
-            → first_place (print_factor (factor_tree self.now) rest) ≡ Some result }
+            → first_token_span (print_factor (factor_tree self.now) rest) ≡ Some result }
     {
         match self {
             Factor::Integer(number) => number.span,
@@ -59,7 +59,7 @@ impl Factor {
             Factor::True(span) => *span,
             Factor::False(span) => *span,
             Factor::Set(set) => set.opening,
-            Factor::Designator(place) => place.first_span(),
+            Factor::Designator(designator) => designator.first_span(),
             Factor::Group { opening, .. } => *opening,
             Factor::Not { tilde, .. } => *tilde,
         }
@@ -67,22 +67,22 @@ impl Factor {
 }
 
 impl Designator {
-    /// The place of the first token.
+    /// The span of the first token.
     pub fn first_span(&self) -> Span
         ensures value { result ≡ first_of_designator (designator_tree self.now) }
         ensures first { (rest : List AnyToken)
-            → first_place (print_designator (designator_tree self.now) rest) ≡ Some result }
+            → first_token_span (print_designator (designator_tree self.now) rest) ≡ Some result }
     {
         self.name.span
     }
 }
 
 impl Type {
-    /// The place of the first token.
+    /// The span of the first token.
     pub fn first_span(&self) -> Span
         ensures value { result ≡ first_of_type (type_tree self.now) }
         ensures first { (rest : List AnyToken)
-            → first_place (print_type (type_tree self.now) rest) ≡ Some result }
+            → first_token_span (print_type (type_tree self.now) rest) ≡ Some result }
     {
         match self {
             Type::Named(name) => name.first.span,
@@ -93,11 +93,11 @@ impl Type {
 }
 
 impl LabelValue {
-    /// The place of the first token.
+    /// The span of the first token.
     pub fn first_span(&self) -> Span
         ensures value { result ≡ first_of_value self.now }
         ensures first { (rest : List AnyToken)
-            → first_place (print_value self.now rest) ≡ Some result }
+            → first_token_span (print_value self.now rest) ≡ Some result }
     {
         match self {
             LabelValue::Integer(number) => number.span,
@@ -108,11 +108,11 @@ impl LabelValue {
 }
 
 impl Label {
-    /// The place of the first token.
+    /// The span of the first token.
     pub fn first_span(&self) -> Span
         ensures value { result ≡ first_of_label self.now }
         ensures first { (rest : List AnyToken)
-            → first_place (print_label self.now rest) ≡ Some result }
+            → first_token_span (print_label self.now rest) ≡ Some result }
     {
         self.first.first_span()
     }

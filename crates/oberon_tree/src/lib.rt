@@ -1,11 +1,15 @@
-//! The syntax trees of Oberon-07 modules, with the place of every token, and how a tree is printed
-//! as its tokens.
+//! The syntax trees of Oberon-07 modules, with the span of every token, how a tree is printed as its tokens, and
+//! inside how many levels a token stands. It stands on `oberon_scan` for tokens, and may know the grammar, and
+//! nothing of how a text is read. Begin reading at `specs/Trees.antt`, the trees as plain data, and `specs/Print.antt`;
+//! every later definition of the language recurses on plain trees. `specs/Memory.antt` leads to them from the Rust
+//! types, `tree_of` from a whole `Tree`.
 #![tactic(auto)]
 
 mod expression;
 mod first_span;
 mod leaf;
 mod module;
+mod span;
 mod statement;
 mod tree;
 mod types;

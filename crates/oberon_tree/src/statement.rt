@@ -35,7 +35,7 @@ pub enum Statement {
 /// `designator ":=" expr` (section 9.1).
 #[derive(Drop)]
 pub struct Assignment {
-    pub place: Designator,
+    pub designator: Designator,
     pub becomes: Span,
     pub value: Expr,
 }

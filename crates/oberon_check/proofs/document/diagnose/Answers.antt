@@ -2,7 +2,7 @@ use Rattle.std.proofs.Common.{◌≡◌, List, IfOk, rules}
 use Rattle.std.specs.List.{All}
 use Rattle.std.proofs.lemmas.Result.{IfOk-weaker}
 use Rattle.ob_text.specs.declared.diagnostic.Diagnostic.{Diagnostic}
-use Rattle.oberon_check.specs.Diagnosed.{Diagnosed, IsNameless, IsInOrder}
+use Rattle.oberon_check.specs.Diagnosed.{Diagnosed, IsNameless, IsAscending}
 use Rattle.oberon_check.proofs.Laws.{all_nameless, all_in_order}
 use Rattle.oberon_check.proofs.Only.{one_list}
 use Rattle.oberon_check.proofs.document.diagnose.Goals as goal
@@ -25,5 +25,5 @@ pub returns-in-Text-clause-in_order : goal.returns-in-Text-clause-in_order
 returns-in-Text-clause-in_order c =
     let held = c.args.held.now in
     let found : IfOk c.diagnose_text.result (λ list. Diagnosed held list.items) = search rules in
-    IfOk-weaker c.diagnose_text.result (λ list. Diagnosed held list.items) (λ list. IsInOrder list.items)
+    IfOk-weaker c.diagnose_text.result (λ list. Diagnosed held list.items) (λ list. IsAscending list.items)
     (λ list d. all_in_order held list.items d) found

@@ -1,6 +1,6 @@
 use Rattle.std.proofs.Common.{suc, length, refl, sym, arith, eqb, ◌∷◌, ◌++◌, ◌∙◌, []}
 use Rattle.oberon_parse.specs.Machine.{term_parts, simple_parts, expr_parts, exprs_parts, element_parts}
-use Rattle.oberon_parse.specs.Tests.{is_symbol, rank}
+use Rattle.oberon_parse.specs.Tests.{is_symbol, reach}
 use Rattle.oberon_parse.proofs.Descending.{halts, via, after_symbol, after_ident, entered, fewer, exits, onto, behind, after_some}
 use Rattle.oberon_parse.proofs.Steps.{skip, skip_selectors}
 use Rattle.oberon_parse.proofs.Expand.{expand_call, expand_set}
@@ -15,7 +15,7 @@ pub relation-returns-in_default : goal.relation-returns-in_default
 relation-returns-in_default t c =
     record {
       spelled = refl;
-      moves = λ s. skip (want.some_relation c.args.levels) (λ k. eqb (rank k) 6) (simple_parts c.args.levels) s c.args.given.now refl (λ k. refl) c.in_default.ensures.none;
+      moves = λ s. skip (want.some_relation c.args.levels) (λ k. eqb (reach k) 6) (simple_parts c.args.levels) s c.args.given.now refl (λ k. refl) c.in_default.ensures.none;
       within = omega arith;
       shorter = omega arith;
     }
@@ -88,7 +88,7 @@ pub addends-returns : goal.addends-returns
 addends-returns t c =
     record {
       spelled = c.loop-operator.invariant.spelled;
-      moves = λ s. c.loop-operator.invariant.moves s ∙ skip (want.addends c.args.levels) (λ k. eqb (rank k) 7) (term_parts c.args.levels ++ (want.addends c.args.levels ∷ [])) s c.loop-operator.rest.now refl (λ k. refl) c.in_default.ensures.none;
+      moves = λ s. c.loop-operator.invariant.moves s ∙ skip (want.addends c.args.levels) (λ k. eqb (reach k) 7) (term_parts c.args.levels ++ (want.addends c.args.levels ∷ [])) s c.loop-operator.rest.now refl (λ k. refl) c.in_default.ensures.none;
       within = c.loop-operator.invariant.within;
       shorter = c.loop-operator.invariant.shorter;
     }
@@ -111,7 +111,7 @@ pub multipliers-returns : goal.multipliers-returns
 multipliers-returns t c =
     record {
       spelled = c.loop-operator.invariant.spelled;
-      moves = λ s. c.loop-operator.invariant.moves s ∙ skip (want.multipliers c.args.levels) (λ k. eqb (rank k) 8) (term_parts c.args.levels ++ []) s c.loop-operator.rest.now refl (λ k. refl) c.in_default.ensures.none;
+      moves = λ s. c.loop-operator.invariant.moves s ∙ skip (want.multipliers c.args.levels) (λ k. eqb (reach k) 8) (term_parts c.args.levels ++ []) s c.loop-operator.rest.now refl (λ k. refl) c.in_default.ensures.none;
       within = c.loop-operator.invariant.within;
       shorter = c.loop-operator.invariant.shorter;
     }
@@ -223,26 +223,26 @@ set-returns t c =
       shorter = omega (arith, c.in_ok-elements.ensures.shorter, fewer c.in_ok-closing.ensures);
     })
 
-pub index-returns-in_err-places : goal.index-returns-in_err-places
-index-returns-in_err-places t c =
-    exits _ _ c.from_residual.result c.in_err-places.field-0.0 c.from_residual.ensures.1
-    (via (exprs_parts c.args.levels ++ []) ((want.selectors (suc c.args.levels)) ∷ []) _ (symbol_token symbols.OpenBracket c.args.opening ∷ c.args.given.now) _ (λ s. (want.symbol symbols.CloseBracket ∷ (want.selectors (suc c.args.levels) ∷ s))) (λ s. entered (want.selectors (suc c.args.levels)) (exprs_parts c.args.levels ++ (want.symbol symbols.CloseBracket ∷ (want.selectors (suc c.args.levels) ∷ []))) s _ _ _ refl refl) c.in_err-places.ensures)
+pub index-returns-in_err-indices : goal.index-returns-in_err-indices
+index-returns-in_err-indices t c =
+    exits _ _ c.from_residual.result c.in_err-indices.field-0.0 c.from_residual.ensures.1
+    (via (exprs_parts c.args.levels ++ []) ((want.selectors (suc c.args.levels)) ∷ []) _ (symbol_token symbols.OpenBracket c.args.opening ∷ c.args.given.now) _ (λ s. (want.symbol symbols.CloseBracket ∷ (want.selectors (suc c.args.levels) ∷ s))) (λ s. entered (want.selectors (suc c.args.levels)) (exprs_parts c.args.levels ++ (want.symbol symbols.CloseBracket ∷ (want.selectors (suc c.args.levels) ∷ []))) s _ _ _ refl refl) c.in_err-indices.ensures)
 
 pub index-returns-in_err-closing : goal.index-returns-in_err-closing
 index-returns-in_err-closing t c =
     exits _ _ c.from_residual-in_err-closing.result c.in_err-closing.field-0.0 c.from_residual-in_err-closing.ensures.1
-    (via (want.symbol symbols.CloseBracket ∷ []) ((want.selectors (suc c.args.levels)) ∷ []) _ (symbol_token symbols.OpenBracket c.args.opening ∷ c.args.given.now) _ (λ s. (want.selectors (suc c.args.levels) ∷ s)) (λ s. entered (want.selectors (suc c.args.levels)) (exprs_parts c.args.levels ++ (want.symbol symbols.CloseBracket ∷ (want.selectors (suc c.args.levels) ∷ []))) s _ _ _ refl refl ∙ c.in_ok-places.ensures.moves (want.symbol symbols.CloseBracket ∷ (want.selectors (suc c.args.levels) ∷ s))) c.in_err-closing.ensures)
+    (via (want.symbol symbols.CloseBracket ∷ []) ((want.selectors (suc c.args.levels)) ∷ []) _ (symbol_token symbols.OpenBracket c.args.opening ∷ c.args.given.now) _ (λ s. (want.selectors (suc c.args.levels) ∷ s)) (λ s. entered (want.selectors (suc c.args.levels)) (exprs_parts c.args.levels ++ (want.symbol symbols.CloseBracket ∷ (want.selectors (suc c.args.levels) ∷ []))) s _ _ _ refl refl ∙ c.in_ok-indices.ensures.moves (want.symbol symbols.CloseBracket ∷ (want.selectors (suc c.args.levels) ∷ s))) c.in_err-closing.ensures)
 
 pub index-returns : goal.index-returns
 index-returns t c =
     rw c.in_ok-boxed.ensures.ok (
       record {
-        spelled = onto refl (behind c.in_ok-places.ensures (onto c.in_ok-closing.ensures refl));
-        moves = λ s. entered (want.selectors (suc c.args.levels)) (exprs_parts c.args.levels ++ (want.symbol symbols.CloseBracket ∷ (want.selectors (suc c.args.levels) ∷ []))) s _ _ _ refl refl ∙ c.in_ok-places.ensures.moves (want.symbol symbols.CloseBracket ∷ (want.selectors (suc c.args.levels) ∷ s)) ∙ after_symbol symbols.CloseBracket (want.selectors (suc c.args.levels) ∷ s) c.in_ok-closing.ensures;
-        within = omega (arith, c.in_ok-places.ensures.within);
-        shorter = omega (arith, c.in_ok-places.ensures.shorter, fewer c.in_ok-closing.ensures);
+        spelled = onto refl (behind c.in_ok-indices.ensures (onto c.in_ok-closing.ensures refl));
+        moves = λ s. entered (want.selectors (suc c.args.levels)) (exprs_parts c.args.levels ++ (want.symbol symbols.CloseBracket ∷ (want.selectors (suc c.args.levels) ∷ []))) s _ _ _ refl refl ∙ c.in_ok-indices.ensures.moves (want.symbol symbols.CloseBracket ∷ (want.selectors (suc c.args.levels) ∷ s)) ∙ after_symbol symbols.CloseBracket (want.selectors (suc c.args.levels) ∷ s) c.in_ok-closing.ensures;
+        within = omega (arith, c.in_ok-indices.ensures.within);
+        shorter = omega (arith, c.in_ok-indices.ensures.shorter, fewer c.in_ok-closing.ensures);
       },
-      omega (arith, c.in_ok-places.ensures.shorter, fewer c.in_ok-closing.ensures),
+      omega (arith, c.in_ok-indices.ensures.shorter, fewer c.in_ok-closing.ensures),
     )
 
 pub call-returns-in-Some : goal.call-returns-in-Some

@@ -3,7 +3,7 @@ use Rattle.oberon_tree.specs.Print.{print_addends, print_multipliers, print_more
 use Rattle.oberon_tree.specs.Levels.{depth_of_addends, depth_of_multipliers, depth_of_more_elements, depth_of_selectors, depth_of_more_exprs}
 use Rattle.oberon_tree.specs.Memory.{addends_list, multipliers_list, more_elements_list, selectors_list, more_exprs_list}
 use Rattle.oberon_parse.specs.Expected as want
-use Rattle.oberon_parse.specs.Reads.{ReadsSome}
+use Rattle.oberon_parse.specs.Reading.{ReadsSome}
 use Rattle.oberon_parse.proofs.expression.+expression.Given as goal
 
 abbrev pub decreases-expr : goal.decreases-expr

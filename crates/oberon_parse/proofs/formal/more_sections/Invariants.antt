@@ -1,6 +1,6 @@
 use Rattle.std.proofs.Common.{map}
 use Rattle.std.proofs.Common.{length}
-use Rattle.oberon_parse.specs.Reads.{ReadsSome}
+use Rattle.oberon_parse.specs.Reading.{ReadsSome}
 use Rattle.oberon_tree.specs.Print.{print_each, print_next_section}
 use Rattle.oberon_tree.specs.Levels.{depth_of_each, depth_of_next_section}
 use Rattle.oberon_tree.specs.Memory.{next_section_tree}

@@ -1,10 +1,10 @@
 use Rattle.std.proofs.Common.{length}
-use Rattle.oberon_parse.specs.Reads.{ReadsOpens}
+use Rattle.oberon_parse.proofs.OpenArrays.{ReadsOpens}
 use Rattle.oberon_parse.proofs.formal.opens.Given as goal
 
-abbrev pub invariant-loop-place : goal.invariant-loop-place
-invariant-loop-place l =
+abbrev pub invariant-loop-span : goal.invariant-loop-span
+invariant-loop-span l =
     ReadsOpens l.levels l.left l.given l.items.items l.rest
 
-abbrev pub decreases-loop-place : goal.decreases-loop-place
-decreases-loop-place l = length l.rest
+abbrev pub decreases-loop-span : goal.decreases-loop-span
+decreases-loop-span l = length l.rest

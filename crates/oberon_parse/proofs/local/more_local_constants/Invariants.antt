@@ -1,5 +1,5 @@
 use Rattle.std.proofs.Common.{length, map}
-use Rattle.oberon_parse.specs.Reads.{ReadsSome}
+use Rattle.oberon_parse.specs.Reading.{ReadsSome}
 use Rattle.oberon_tree.specs.Print.{print_each, print_local_constant}
 use Rattle.oberon_tree.specs.Levels.{depth_of_each, depth_of_local_constant}
 use Rattle.oberon_tree.specs.Memory.{local_constant_tree}

@@ -1,5 +1,5 @@
 use Rattle.std.proofs.Common.{length}
-use Rattle.oberon_parse.specs.Reads.{ReadsSome}
+use Rattle.oberon_parse.specs.Reading.{ReadsSome}
 use Rattle.oberon_tree.specs.Print.{print_each, print_next_ident_def}
 use Rattle.oberon_parse.specs.Expected as want
 use Rattle.oberon_parse.proofs.name.more_ident_defs.Given as goal

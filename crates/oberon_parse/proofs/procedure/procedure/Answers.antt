@@ -10,17 +10,17 @@ use Rattle.oberon_parse.proofs.procedure.procedure.Goals as goal
 pub returns-in_err-found : goal.returns-in_err-found
 returns-in_err-found c =
     exits _ _ c.from_residual.result c.in_err-found.field-0.0 c.from_residual.ensures.1
-    (via (ident_def_parts ++ (want.some_formals c.args.levels ∷ (want.symbol symbols.Semicolon ∷ []))) ((want.procedures (suc c.args.levels)) ∷ []) _ (word_token words.Procedure c.args.place ∷ c.args.given.now) _ (λ s. (locals_parts c.args.levels ++ (want.some_body c.args.levels ∷ (want.some_return c.args.levels ∷ (want.word words.End ∷ (want.ident ∷ (want.symbol symbols.Semicolon ∷ (want.procedures (suc c.args.levels) ∷ s)))))))) (λ s. entered (want.procedures (suc c.args.levels)) (ident_def_parts ++ (want.some_formals c.args.levels ∷ (want.symbol symbols.Semicolon ∷ (locals_parts c.args.levels ++ (want.some_body c.args.levels ∷ (want.some_return c.args.levels ∷ (want.word words.End ∷ (want.ident ∷ (want.symbol symbols.Semicolon ∷ (want.procedures (suc c.args.levels) ∷ [])))))))))) s _ _ _ refl refl) c.in_err-found.ensures)
+    (via (ident_def_parts ++ (want.some_formals c.args.levels ∷ (want.symbol symbols.Semicolon ∷ []))) ((want.procedures (suc c.args.levels)) ∷ []) _ (word_token words.Procedure c.args.span ∷ c.args.given.now) _ (λ s. (locals_parts c.args.levels ++ (want.some_body c.args.levels ∷ (want.some_return c.args.levels ∷ (want.word words.End ∷ (want.ident ∷ (want.symbol symbols.Semicolon ∷ (want.procedures (suc c.args.levels) ∷ s)))))))) (λ s. entered (want.procedures (suc c.args.levels)) (ident_def_parts ++ (want.some_formals c.args.levels ∷ (want.symbol symbols.Semicolon ∷ (locals_parts c.args.levels ++ (want.some_body c.args.levels ∷ (want.some_return c.args.levels ∷ (want.word words.End ∷ (want.ident ∷ (want.symbol symbols.Semicolon ∷ (want.procedures (suc c.args.levels) ∷ [])))))))))) s _ _ _ refl refl) c.in_err-found.ensures)
 
 pub returns-in_err-behind : goal.returns-in_err-behind
 returns-in_err-behind c =
     exits _ _ c.from_residual-in_err-behind.result c.in_err-behind.field-0.0 c.from_residual-in_err-behind.ensures.1
-    (via (locals_parts c.args.levels ++ (want.some_body c.args.levels ∷ (want.some_return c.args.levels ∷ (want.word words.End ∷ (want.ident ∷ []))))) ((want.procedures (suc c.args.levels)) ∷ []) _ (word_token words.Procedure c.args.place ∷ c.args.given.now) _ (λ s. (want.symbol symbols.Semicolon ∷ (want.procedures (suc c.args.levels) ∷ s))) (λ s. entered (want.procedures (suc c.args.levels)) (ident_def_parts ++ (want.some_formals c.args.levels ∷ (want.symbol symbols.Semicolon ∷ (locals_parts c.args.levels ++ (want.some_body c.args.levels ∷ (want.some_return c.args.levels ∷ (want.word words.End ∷ (want.ident ∷ (want.symbol symbols.Semicolon ∷ (want.procedures (suc c.args.levels) ∷ [])))))))))) s _ _ _ refl refl ∙ c.in_ok-found.ensures.moves (locals_parts c.args.levels ++ (want.some_body c.args.levels ∷ (want.some_return c.args.levels ∷ (want.word words.End ∷ (want.ident ∷ (want.symbol symbols.Semicolon ∷ (want.procedures (suc c.args.levels) ∷ s)))))))) c.in_err-behind.ensures)
+    (via (locals_parts c.args.levels ++ (want.some_body c.args.levels ∷ (want.some_return c.args.levels ∷ (want.word words.End ∷ (want.ident ∷ []))))) ((want.procedures (suc c.args.levels)) ∷ []) _ (word_token words.Procedure c.args.span ∷ c.args.given.now) _ (λ s. (want.symbol symbols.Semicolon ∷ (want.procedures (suc c.args.levels) ∷ s))) (λ s. entered (want.procedures (suc c.args.levels)) (ident_def_parts ++ (want.some_formals c.args.levels ∷ (want.symbol symbols.Semicolon ∷ (locals_parts c.args.levels ++ (want.some_body c.args.levels ∷ (want.some_return c.args.levels ∷ (want.word words.End ∷ (want.ident ∷ (want.symbol symbols.Semicolon ∷ (want.procedures (suc c.args.levels) ∷ [])))))))))) s _ _ _ refl refl ∙ c.in_ok-found.ensures.moves (locals_parts c.args.levels ++ (want.some_body c.args.levels ∷ (want.some_return c.args.levels ∷ (want.word words.End ∷ (want.ident ∷ (want.symbol symbols.Semicolon ∷ (want.procedures (suc c.args.levels) ∷ s)))))))) c.in_err-behind.ensures)
 
 pub returns-in_err-separator : goal.returns-in_err-separator
 returns-in_err-separator c =
     exits _ _ c.from_residual-in_err-separator.result c.in_err-separator.field-0.0 c.from_residual-in_err-separator.ensures.1
-    (via (want.symbol symbols.Semicolon ∷ []) ((want.procedures (suc c.args.levels)) ∷ []) _ (word_token words.Procedure c.args.place ∷ c.args.given.now) _ (λ s. (want.procedures (suc c.args.levels) ∷ s)) (λ s. entered (want.procedures (suc c.args.levels)) (ident_def_parts ++ (want.some_formals c.args.levels ∷ (want.symbol symbols.Semicolon ∷ (locals_parts c.args.levels ++ (want.some_body c.args.levels ∷ (want.some_return c.args.levels ∷ (want.word words.End ∷ (want.ident ∷ (want.symbol symbols.Semicolon ∷ (want.procedures (suc c.args.levels) ∷ [])))))))))) s _ _ _ refl refl ∙ c.in_ok-found.ensures.moves (locals_parts c.args.levels ++ (want.some_body c.args.levels ∷ (want.some_return c.args.levels ∷ (want.word words.End ∷ (want.ident ∷ (want.symbol symbols.Semicolon ∷ (want.procedures (suc c.args.levels) ∷ s))))))) ∙ c.in_ok-behind.ensures.moves (want.symbol symbols.Semicolon ∷ (want.procedures (suc c.args.levels) ∷ s))) c.in_err-separator.ensures)
+    (via (want.symbol symbols.Semicolon ∷ []) ((want.procedures (suc c.args.levels)) ∷ []) _ (word_token words.Procedure c.args.span ∷ c.args.given.now) _ (λ s. (want.procedures (suc c.args.levels) ∷ s)) (λ s. entered (want.procedures (suc c.args.levels)) (ident_def_parts ++ (want.some_formals c.args.levels ∷ (want.symbol symbols.Semicolon ∷ (locals_parts c.args.levels ++ (want.some_body c.args.levels ∷ (want.some_return c.args.levels ∷ (want.word words.End ∷ (want.ident ∷ (want.symbol symbols.Semicolon ∷ (want.procedures (suc c.args.levels) ∷ [])))))))))) s _ _ _ refl refl ∙ c.in_ok-found.ensures.moves (locals_parts c.args.levels ++ (want.some_body c.args.levels ∷ (want.some_return c.args.levels ∷ (want.word words.End ∷ (want.ident ∷ (want.symbol symbols.Semicolon ∷ (want.procedures (suc c.args.levels) ∷ s))))))) ∙ c.in_ok-behind.ensures.moves (want.symbol symbols.Semicolon ∷ (want.procedures (suc c.args.levels) ∷ s))) c.in_err-separator.ensures)
 
 pub returns : goal.returns
 returns c = (

@@ -1,7 +1,7 @@
 use Rattle.std.proofs.Common.{suc, length, refl, sym, arith, subst, ◌∷◌, ◌++◌, ◌∙◌, []}
 use Rattle.oberon_parse.specs.Machine.{expr_parts, statements_parts, guarded_parts}
 use Rattle.oberon_parse.specs.Tests.{is_word, is_symbol}
-use Rattle.oberon_parse.specs.Reads.{Stops}
+use Rattle.oberon_parse.specs.Reading.{StopsAt}
 use Rattle.oberon_parse.proofs.Descending.{halts, via, after_symbol, after_word, after_ident, entered, fewer, exits, onto, behind, after_some}
 use Rattle.oberon_parse.proofs.Steps.{skip, skip_arm, skip_statement}
 use Rattle.oberon_parse.proofs.Joins.{no_level}
@@ -54,31 +54,31 @@ pub statement-returns-in_err-inner : goal.statement-returns-in_err-inner
 statement-returns-in_err-inner t c =
     let z = c.in_err-inner.ensures in
     exits _ _ c.from_residual-in_err-inner.result c.in_err-inner.field-0.0 c.from_residual-in_err-inner.ensures.1
-    (subst (λ e. Stops ((want.statement c.args.levels) ∷ []) c.args.given.now e) (sym z.1) (halts ((want.statement c.args.levels) ∷ []) c.args.given.now (length c.args.given.now) (λ s. no_level (want.statement c.args.levels) s _ c.args.given.now _ c.in-Some-word.ensures.some (rw z.0 refl))))
+    (subst (λ e. StopsAt ((want.statement c.args.levels) ∷ []) c.args.given.now e) (sym z.1) (halts ((want.statement c.args.levels) ∷ []) c.args.given.now (length c.args.given.now) (λ s. no_level (want.statement c.args.levels) s _ c.args.given.now _ c.in-Some-word.ensures.some (rw z.0 refl))))
 
 pub statement-returns-in_err-inner-2 : goal.statement-returns-in_err-inner-2
 statement-returns-in_err-inner-2 t c =
     let z = c.in_err-inner-2.ensures in
     exits _ _ c.from_residual-in_err-inner-2.result c.in_err-inner-2.field-0.0 c.from_residual-in_err-inner-2.ensures.1
-    (subst (λ e. Stops ((want.statement c.args.levels) ∷ []) c.args.given.now e) (sym z.1) (halts ((want.statement c.args.levels) ∷ []) c.args.given.now (length c.args.given.now) (λ s. no_level (want.statement c.args.levels) s _ c.args.given.now _ c.in-Some-word-2.ensures.some (rw z.0 refl))))
+    (subst (λ e. StopsAt ((want.statement c.args.levels) ∷ []) c.args.given.now e) (sym z.1) (halts ((want.statement c.args.levels) ∷ []) c.args.given.now (length c.args.given.now) (λ s. no_level (want.statement c.args.levels) s _ c.args.given.now _ c.in-Some-word-2.ensures.some (rw z.0 refl))))
 
 pub statement-returns-in_err-inner-3 : goal.statement-returns-in_err-inner-3
 statement-returns-in_err-inner-3 t c =
     let z = c.in_err-inner-3.ensures in
     exits _ _ c.from_residual-in_err-inner-3.result c.in_err-inner-3.field-0.0 c.from_residual-in_err-inner-3.ensures.1
-    (subst (λ e. Stops ((want.statement c.args.levels) ∷ []) c.args.given.now e) (sym z.1) (halts ((want.statement c.args.levels) ∷ []) c.args.given.now (length c.args.given.now) (λ s. no_level (want.statement c.args.levels) s _ c.args.given.now _ c.in-Some-word-3.ensures.some (rw z.0 refl))))
+    (subst (λ e. StopsAt ((want.statement c.args.levels) ∷ []) c.args.given.now e) (sym z.1) (halts ((want.statement c.args.levels) ∷ []) c.args.given.now (length c.args.given.now) (λ s. no_level (want.statement c.args.levels) s _ c.args.given.now _ c.in-Some-word-3.ensures.some (rw z.0 refl))))
 
 pub statement-returns-in_err-inner-4 : goal.statement-returns-in_err-inner-4
 statement-returns-in_err-inner-4 t c =
     let z = c.in_err-inner-4.ensures in
     exits _ _ c.from_residual-in_err-inner-4.result c.in_err-inner-4.field-0.0 c.from_residual-in_err-inner-4.ensures.1
-    (subst (λ e. Stops ((want.statement c.args.levels) ∷ []) c.args.given.now e) (sym z.1) (halts ((want.statement c.args.levels) ∷ []) c.args.given.now (length c.args.given.now) (λ s. no_level (want.statement c.args.levels) s _ c.args.given.now _ c.in-Some-word-4.ensures.some (rw z.0 refl))))
+    (subst (λ e. StopsAt ((want.statement c.args.levels) ∷ []) c.args.given.now e) (sym z.1) (halts ((want.statement c.args.levels) ∷ []) c.args.given.now (length c.args.given.now) (λ s. no_level (want.statement c.args.levels) s _ c.args.given.now _ c.in-Some-word-4.ensures.some (rw z.0 refl))))
 
 pub statement-returns-in_err-inner-5 : goal.statement-returns-in_err-inner-5
 statement-returns-in_err-inner-5 t c =
     let z = c.in_err-inner-5.ensures in
     exits _ _ c.from_residual-in_err-inner-5.result c.in_err-inner-5.field-0.0 c.from_residual-in_err-inner-5.ensures.1
-    (subst (λ e. Stops ((want.statement c.args.levels) ∷ []) c.args.given.now e) (sym z.1) (halts ((want.statement c.args.levels) ∷ []) c.args.given.now (length c.args.given.now) (λ s. no_level (want.statement c.args.levels) s _ c.args.given.now _ c.in-Some-word-5.ensures.some (rw z.0 refl))))
+    (subst (λ e. StopsAt ((want.statement c.args.levels) ∷ []) c.args.given.now e) (sym z.1) (halts ((want.statement c.args.levels) ∷ []) c.args.given.now (length c.args.given.now) (λ s. no_level (want.statement c.args.levels) s _ c.args.given.now _ c.in-Some-word-5.ensures.some (rw z.0 refl))))
 
 pub statement-returns : goal.statement-returns
 statement-returns t c =
@@ -90,46 +90,46 @@ statement-returns t c =
       shorter = omega arith;
     }
 
-pub guarded-returns-in_err-place : goal.guarded-returns-in_err-place
-guarded-returns-in_err-place t c =
-    exits _ _ c.from_residual-in_err-place.result c.in_err-place.field-0.0 c.from_residual-in_err-place.ensures.1
-    (via (want.word c.args.joint ∷ []) (guarded_parts c.args.joint c.args.levels) _ c.args.given.now _ (λ s. (statements_parts c.args.levels ++ s)) (λ s. c.in_ok-condition.ensures.moves (want.word c.args.joint ∷ (statements_parts c.args.levels ++ s))) c.in_err-place.ensures)
+pub guarded-returns-in_err-span : goal.guarded-returns-in_err-span
+guarded-returns-in_err-span t c =
+    exits _ _ c.from_residual-in_err-span.result c.in_err-span.field-0.0 c.from_residual-in_err-span.ensures.1
+    (via (want.word c.args.joint ∷ []) (guarded_parts c.args.joint c.args.levels) _ c.args.given.now _ (λ s. (statements_parts c.args.levels ++ s)) (λ s. c.in_ok-condition.ensures.moves (want.word c.args.joint ∷ (statements_parts c.args.levels ++ s))) c.in_err-span.ensures)
 
 pub guarded-returns-in_err-body : goal.guarded-returns-in_err-body
 guarded-returns-in_err-body t c =
     exits _ _ c.from_residual-in_err-body.result c.in_err-body.field-0.0 c.from_residual-in_err-body.ensures.1
-    (via (statements_parts c.args.levels ++ []) (guarded_parts c.args.joint c.args.levels) _ c.args.given.now _ (λ s. s) (λ s. c.in_ok-condition.ensures.moves (want.word c.args.joint ∷ (statements_parts c.args.levels ++ s)) ∙ after_word c.args.joint (statements_parts c.args.levels ++ s) c.in_ok-place.ensures) c.in_err-body.ensures)
+    (via (statements_parts c.args.levels ++ []) (guarded_parts c.args.joint c.args.levels) _ c.args.given.now _ (λ s. s) (λ s. c.in_ok-condition.ensures.moves (want.word c.args.joint ∷ (statements_parts c.args.levels ++ s)) ∙ after_word c.args.joint (statements_parts c.args.levels ++ s) c.in_ok-span.ensures) c.in_err-body.ensures)
 
 pub guarded-returns : goal.guarded-returns
 guarded-returns t c =
     record {
-      spelled = behind c.in_ok-condition.ensures (onto c.in_ok-place.ensures (behind c.in_ok-body.ensures refl));
-      moves = λ s. c.in_ok-condition.ensures.moves (want.word c.args.joint ∷ (statements_parts c.args.levels ++ s)) ∙ after_word c.args.joint (statements_parts c.args.levels ++ s) c.in_ok-place.ensures ∙ c.in_ok-body.ensures.moves s;
+      spelled = behind c.in_ok-condition.ensures (onto c.in_ok-span.ensures (behind c.in_ok-body.ensures refl));
+      moves = λ s. c.in_ok-condition.ensures.moves (want.word c.args.joint ∷ (statements_parts c.args.levels ++ s)) ∙ after_word c.args.joint (statements_parts c.args.levels ++ s) c.in_ok-span.ensures ∙ c.in_ok-body.ensures.moves s;
       within = omega (arith, c.in_ok-condition.ensures.within, c.in_ok-body.ensures.within);
-      shorter = omega (arith, c.in_ok-condition.ensures.shorter, fewer c.in_ok-place.ensures, c.in_ok-body.ensures.shorter);
+      shorter = omega (arith, c.in_ok-condition.ensures.shorter, fewer c.in_ok-span.ensures, c.in_ok-body.ensures.shorter);
     }
 
 pub elsifs-returns-in_err-parts : goal.elsifs-returns-in_err-parts
 elsifs-returns-in_err-parts t c =
     exits _ _ c.from_residual.result c.in_err-parts.field-0.0 c.from_residual.ensures.1
-    (via (guarded_parts c.args.joint c.args.levels ++ []) ((want.elsifs c.args.joint c.args.levels) ∷ []) _ c.args.given.now _ (λ s. ((want.elsifs c.args.joint c.args.levels) ∷ s)) (λ s. c.loop-place.invariant.moves s ∙ entered (want.elsifs c.args.joint c.args.levels) (guarded_parts c.args.joint c.args.levels ++ (want.elsifs c.args.joint c.args.levels ∷ [])) s _ _ _ c.in-Some.ensures.some refl) c.in_err-parts.ensures)
+    (via (guarded_parts c.args.joint c.args.levels ++ []) ((want.elsifs c.args.joint c.args.levels) ∷ []) _ c.args.given.now _ (λ s. ((want.elsifs c.args.joint c.args.levels) ∷ s)) (λ s. c.loop-span.invariant.moves s ∙ entered (want.elsifs c.args.joint c.args.levels) (guarded_parts c.args.joint c.args.levels ++ (want.elsifs c.args.joint c.args.levels ∷ [])) s _ _ _ c.in-Some.ensures.some refl) c.in_err-parts.ensures)
 
-pub elsifs-loop-place-preserved : goal.elsifs-loop-place-preserved
-elsifs-loop-place-preserved t c =
+pub elsifs-loop-span-preserved : goal.elsifs-loop-span-preserved
+elsifs-loop-span-preserved t c =
     rw c.in_ok-push.ensures.items (record {
-      spelled = after_some c.loop-place.invariant (onto c.in-Some.ensures.some (behind c.in_ok-parts.ensures refl)) ∙ sym (elsifs_push c.args.joint c.loop-place.items.items _ _ _ _ c.in_ok-parts.after.now);
-      moves = λ s. c.loop-place.invariant.moves s ∙ entered (want.elsifs c.args.joint c.args.levels) (guarded_parts c.args.joint c.args.levels ++ (want.elsifs c.args.joint c.args.levels ∷ [])) s _ _ _ c.in-Some.ensures.some refl ∙ c.in_ok-parts.ensures.moves ((want.elsifs c.args.joint c.args.levels) ∷ s);
-      within = rw (elsifs_depth c.loop-place.items.items _ _ _ _) omega (arith, c.loop-place.invariant.within, c.in_ok-parts.ensures.within);
-      shorter = omega (arith, c.loop-place.invariant.shorter, fewer c.in-Some.ensures.some, c.in_ok-parts.ensures.shorter);
+      spelled = after_some c.loop-span.invariant (onto c.in-Some.ensures.some (behind c.in_ok-parts.ensures refl)) ∙ sym (elsifs_push c.args.joint c.loop-span.items.items _ _ _ _ c.in_ok-parts.after.now);
+      moves = λ s. c.loop-span.invariant.moves s ∙ entered (want.elsifs c.args.joint c.args.levels) (guarded_parts c.args.joint c.args.levels ++ (want.elsifs c.args.joint c.args.levels ∷ [])) s _ _ _ c.in-Some.ensures.some refl ∙ c.in_ok-parts.ensures.moves ((want.elsifs c.args.joint c.args.levels) ∷ s);
+      within = rw (elsifs_depth c.loop-span.items.items _ _ _ _) omega (arith, c.loop-span.invariant.within, c.in_ok-parts.ensures.within);
+      shorter = omega (arith, c.loop-span.invariant.shorter, fewer c.in-Some.ensures.some, c.in_ok-parts.ensures.shorter);
     })
 
 pub elsifs-returns : goal.elsifs-returns
 elsifs-returns t c =
     record {
-      spelled = c.loop-place.invariant.spelled;
-      moves = λ s. c.loop-place.invariant.moves s ∙ skip (want.elsifs c.args.joint c.args.levels) (is_word words.Elsif) (guarded_parts c.args.joint c.args.levels ++ (want.elsifs c.args.joint c.args.levels ∷ [])) s c.loop-place.rest.now refl (λ k. refl) c.in_default.ensures.none;
-      within = c.loop-place.invariant.within;
-      shorter = c.loop-place.invariant.shorter;
+      spelled = c.loop-span.invariant.spelled;
+      moves = λ s. c.loop-span.invariant.moves s ∙ skip (want.elsifs c.args.joint c.args.levels) (is_word words.Elsif) (guarded_parts c.args.joint c.args.levels ++ (want.elsifs c.args.joint c.args.levels ∷ [])) s c.loop-span.rest.now refl (λ k. refl) c.in_default.ensures.none;
+      within = c.loop-span.invariant.within;
+      shorter = c.loop-span.invariant.shorter;
     }
 
 pub otherwise-returns-in_default : goal.otherwise-returns-in_default
@@ -158,22 +158,22 @@ otherwise-returns t c =
 pub conditional-returns-in_err-parts : goal.conditional-returns-in_err-parts
 conditional-returns-in_err-parts t c =
     exits _ _ c.from_residual.result c.in_err-parts.field-0.0 c.from_residual.ensures.1
-    (via (guarded_parts words.Then c.args.levels ++ []) ((want.statement (suc c.args.levels)) ∷ []) _ (word_token words.If c.args.place ∷ c.args.given.now) _ (λ s. (want.elsifs words.Then c.args.levels ∷ (want.some_else c.args.levels ∷ (want.word words.End ∷ s)))) (λ s. entered (want.statement (suc c.args.levels)) (guarded_parts words.Then c.args.levels ++ (want.elsifs words.Then c.args.levels ∷ (want.some_else c.args.levels ∷ (want.word words.End ∷ [])))) s _ _ _ refl refl) c.in_err-parts.ensures)
+    (via (guarded_parts words.Then c.args.levels ++ []) ((want.statement (suc c.args.levels)) ∷ []) _ (word_token words.If c.args.span ∷ c.args.given.now) _ (λ s. (want.elsifs words.Then c.args.levels ∷ (want.some_else c.args.levels ∷ (want.word words.End ∷ s)))) (λ s. entered (want.statement (suc c.args.levels)) (guarded_parts words.Then c.args.levels ++ (want.elsifs words.Then c.args.levels ∷ (want.some_else c.args.levels ∷ (want.word words.End ∷ [])))) s _ _ _ refl refl) c.in_err-parts.ensures)
 
 pub conditional-returns-in_err-next : goal.conditional-returns-in_err-next
 conditional-returns-in_err-next t c =
     exits _ _ c.from_residual-in_err-next.result c.in_err-next.field-0.0 c.from_residual-in_err-next.ensures.1
-    (via (want.elsifs words.Then c.args.levels ∷ []) ((want.statement (suc c.args.levels)) ∷ []) _ (word_token words.If c.args.place ∷ c.args.given.now) _ (λ s. (want.some_else c.args.levels ∷ (want.word words.End ∷ s))) (λ s. entered (want.statement (suc c.args.levels)) (guarded_parts words.Then c.args.levels ++ (want.elsifs words.Then c.args.levels ∷ (want.some_else c.args.levels ∷ (want.word words.End ∷ [])))) s _ _ _ refl refl ∙ c.in_ok-parts.ensures.moves (want.elsifs words.Then c.args.levels ∷ (want.some_else c.args.levels ∷ (want.word words.End ∷ s)))) c.in_err-next.ensures)
+    (via (want.elsifs words.Then c.args.levels ∷ []) ((want.statement (suc c.args.levels)) ∷ []) _ (word_token words.If c.args.span ∷ c.args.given.now) _ (λ s. (want.some_else c.args.levels ∷ (want.word words.End ∷ s))) (λ s. entered (want.statement (suc c.args.levels)) (guarded_parts words.Then c.args.levels ++ (want.elsifs words.Then c.args.levels ∷ (want.some_else c.args.levels ∷ (want.word words.End ∷ [])))) s _ _ _ refl refl ∙ c.in_ok-parts.ensures.moves (want.elsifs words.Then c.args.levels ∷ (want.some_else c.args.levels ∷ (want.word words.End ∷ s)))) c.in_err-next.ensures)
 
 pub conditional-returns-in_err-other : goal.conditional-returns-in_err-other
 conditional-returns-in_err-other t c =
     exits _ _ c.from_residual-in_err-other.result c.in_err-other.field-0.0 c.from_residual-in_err-other.ensures.1
-    (via (want.some_else c.args.levels ∷ []) ((want.statement (suc c.args.levels)) ∷ []) _ (word_token words.If c.args.place ∷ c.args.given.now) _ (λ s. (want.word words.End ∷ s)) (λ s. entered (want.statement (suc c.args.levels)) (guarded_parts words.Then c.args.levels ++ (want.elsifs words.Then c.args.levels ∷ (want.some_else c.args.levels ∷ (want.word words.End ∷ [])))) s _ _ _ refl refl ∙ c.in_ok-parts.ensures.moves (want.elsifs words.Then c.args.levels ∷ (want.some_else c.args.levels ∷ (want.word words.End ∷ s))) ∙ c.in_ok-next.ensures.moves (want.some_else c.args.levels ∷ (want.word words.End ∷ s))) c.in_err-other.ensures)
+    (via (want.some_else c.args.levels ∷ []) ((want.statement (suc c.args.levels)) ∷ []) _ (word_token words.If c.args.span ∷ c.args.given.now) _ (λ s. (want.word words.End ∷ s)) (λ s. entered (want.statement (suc c.args.levels)) (guarded_parts words.Then c.args.levels ++ (want.elsifs words.Then c.args.levels ∷ (want.some_else c.args.levels ∷ (want.word words.End ∷ [])))) s _ _ _ refl refl ∙ c.in_ok-parts.ensures.moves (want.elsifs words.Then c.args.levels ∷ (want.some_else c.args.levels ∷ (want.word words.End ∷ s))) ∙ c.in_ok-next.ensures.moves (want.some_else c.args.levels ∷ (want.word words.End ∷ s))) c.in_err-other.ensures)
 
 pub conditional-returns-in_err-end : goal.conditional-returns-in_err-end
 conditional-returns-in_err-end t c =
     exits _ _ c.from_residual-in_err-end.result c.in_err-end.field-0.0 c.from_residual-in_err-end.ensures.1
-    (via (want.word words.End ∷ []) ((want.statement (suc c.args.levels)) ∷ []) _ (word_token words.If c.args.place ∷ c.args.given.now) _ (λ s. s) (λ s. entered (want.statement (suc c.args.levels)) (guarded_parts words.Then c.args.levels ++ (want.elsifs words.Then c.args.levels ∷ (want.some_else c.args.levels ∷ (want.word words.End ∷ [])))) s _ _ _ refl refl ∙ c.in_ok-parts.ensures.moves (want.elsifs words.Then c.args.levels ∷ (want.some_else c.args.levels ∷ (want.word words.End ∷ s))) ∙ c.in_ok-next.ensures.moves (want.some_else c.args.levels ∷ (want.word words.End ∷ s)) ∙ c.in_ok-other.ensures.moves (want.word words.End ∷ s)) c.in_err-end.ensures)
+    (via (want.word words.End ∷ []) ((want.statement (suc c.args.levels)) ∷ []) _ (word_token words.If c.args.span ∷ c.args.given.now) _ (λ s. s) (λ s. entered (want.statement (suc c.args.levels)) (guarded_parts words.Then c.args.levels ++ (want.elsifs words.Then c.args.levels ∷ (want.some_else c.args.levels ∷ (want.word words.End ∷ [])))) s _ _ _ refl refl ∙ c.in_ok-parts.ensures.moves (want.elsifs words.Then c.args.levels ∷ (want.some_else c.args.levels ∷ (want.word words.End ∷ s))) ∙ c.in_ok-next.ensures.moves (want.some_else c.args.levels ∷ (want.word words.End ∷ s)) ∙ c.in_ok-other.ensures.moves (want.word words.End ∷ s)) c.in_err-end.ensures)
 
 pub conditional-returns : goal.conditional-returns
 conditional-returns t c =
@@ -187,27 +187,27 @@ conditional-returns t c =
 pub choice-returns-in_err-value : goal.choice-returns-in_err-value
 choice-returns-in_err-value t c =
     exits _ _ c.from_residual.result c.in_err-value.field-0.0 c.from_residual.ensures.1
-    (via (expr_parts c.args.levels ++ []) ((want.statement (suc c.args.levels)) ∷ []) _ (word_token words.Case c.args.place ∷ c.args.given.now) _ (λ s. (want.word words.Of ∷ (want.arm c.args.levels ∷ (want.arms c.args.levels ∷ (want.word words.End ∷ s))))) (λ s. entered (want.statement (suc c.args.levels)) (expr_parts c.args.levels ++ (want.word words.Of ∷ (want.arm c.args.levels ∷ (want.arms c.args.levels ∷ (want.word words.End ∷ []))))) s _ _ _ refl refl) c.in_err-value.ensures)
+    (via (expr_parts c.args.levels ++ []) ((want.statement (suc c.args.levels)) ∷ []) _ (word_token words.Case c.args.span ∷ c.args.given.now) _ (λ s. (want.word words.Of ∷ (want.arm c.args.levels ∷ (want.arms c.args.levels ∷ (want.word words.End ∷ s))))) (λ s. entered (want.statement (suc c.args.levels)) (expr_parts c.args.levels ++ (want.word words.Of ∷ (want.arm c.args.levels ∷ (want.arms c.args.levels ∷ (want.word words.End ∷ []))))) s _ _ _ refl refl) c.in_err-value.ensures)
 
 pub choice-returns-in_err-of : goal.choice-returns-in_err-of
 choice-returns-in_err-of t c =
     exits _ _ c.from_residual-in_err-of.result c.in_err-of.field-0.0 c.from_residual-in_err-of.ensures.1
-    (via (want.word words.Of ∷ []) ((want.statement (suc c.args.levels)) ∷ []) _ (word_token words.Case c.args.place ∷ c.args.given.now) _ (λ s. (want.arm c.args.levels ∷ (want.arms c.args.levels ∷ (want.word words.End ∷ s)))) (λ s. entered (want.statement (suc c.args.levels)) (expr_parts c.args.levels ++ (want.word words.Of ∷ (want.arm c.args.levels ∷ (want.arms c.args.levels ∷ (want.word words.End ∷ []))))) s _ _ _ refl refl ∙ c.in_ok-value.ensures.moves (want.word words.Of ∷ (want.arm c.args.levels ∷ (want.arms c.args.levels ∷ (want.word words.End ∷ s))))) c.in_err-of.ensures)
+    (via (want.word words.Of ∷ []) ((want.statement (suc c.args.levels)) ∷ []) _ (word_token words.Case c.args.span ∷ c.args.given.now) _ (λ s. (want.arm c.args.levels ∷ (want.arms c.args.levels ∷ (want.word words.End ∷ s)))) (λ s. entered (want.statement (suc c.args.levels)) (expr_parts c.args.levels ++ (want.word words.Of ∷ (want.arm c.args.levels ∷ (want.arms c.args.levels ∷ (want.word words.End ∷ []))))) s _ _ _ refl refl ∙ c.in_ok-value.ensures.moves (want.word words.Of ∷ (want.arm c.args.levels ∷ (want.arms c.args.levels ∷ (want.word words.End ∷ s))))) c.in_err-of.ensures)
 
 pub choice-returns-in_err-first : goal.choice-returns-in_err-first
 choice-returns-in_err-first t c =
     exits _ _ c.from_residual-in_err-first.result c.in_err-first.field-0.0 c.from_residual-in_err-first.ensures.1
-    (via (want.arm c.args.levels ∷ []) ((want.statement (suc c.args.levels)) ∷ []) _ (word_token words.Case c.args.place ∷ c.args.given.now) _ (λ s. (want.arms c.args.levels ∷ (want.word words.End ∷ s))) (λ s. entered (want.statement (suc c.args.levels)) (expr_parts c.args.levels ++ (want.word words.Of ∷ (want.arm c.args.levels ∷ (want.arms c.args.levels ∷ (want.word words.End ∷ []))))) s _ _ _ refl refl ∙ c.in_ok-value.ensures.moves (want.word words.Of ∷ (want.arm c.args.levels ∷ (want.arms c.args.levels ∷ (want.word words.End ∷ s)))) ∙ after_word words.Of (want.arm c.args.levels ∷ (want.arms c.args.levels ∷ (want.word words.End ∷ s))) c.in_ok-of.ensures) c.in_err-first.ensures)
+    (via (want.arm c.args.levels ∷ []) ((want.statement (suc c.args.levels)) ∷ []) _ (word_token words.Case c.args.span ∷ c.args.given.now) _ (λ s. (want.arms c.args.levels ∷ (want.word words.End ∷ s))) (λ s. entered (want.statement (suc c.args.levels)) (expr_parts c.args.levels ++ (want.word words.Of ∷ (want.arm c.args.levels ∷ (want.arms c.args.levels ∷ (want.word words.End ∷ []))))) s _ _ _ refl refl ∙ c.in_ok-value.ensures.moves (want.word words.Of ∷ (want.arm c.args.levels ∷ (want.arms c.args.levels ∷ (want.word words.End ∷ s)))) ∙ after_word words.Of (want.arm c.args.levels ∷ (want.arms c.args.levels ∷ (want.word words.End ∷ s))) c.in_ok-of.ensures) c.in_err-first.ensures)
 
 pub choice-returns-in_err-next : goal.choice-returns-in_err-next
 choice-returns-in_err-next t c =
     exits _ _ c.from_residual-in_err-next.result c.in_err-next.field-0.0 c.from_residual-in_err-next.ensures.1
-    (via (want.arms c.args.levels ∷ []) ((want.statement (suc c.args.levels)) ∷ []) _ (word_token words.Case c.args.place ∷ c.args.given.now) _ (λ s. (want.word words.End ∷ s)) (λ s. entered (want.statement (suc c.args.levels)) (expr_parts c.args.levels ++ (want.word words.Of ∷ (want.arm c.args.levels ∷ (want.arms c.args.levels ∷ (want.word words.End ∷ []))))) s _ _ _ refl refl ∙ c.in_ok-value.ensures.moves (want.word words.Of ∷ (want.arm c.args.levels ∷ (want.arms c.args.levels ∷ (want.word words.End ∷ s)))) ∙ after_word words.Of (want.arm c.args.levels ∷ (want.arms c.args.levels ∷ (want.word words.End ∷ s))) c.in_ok-of.ensures ∙ c.in_ok-first.ensures.moves (want.arms c.args.levels ∷ (want.word words.End ∷ s))) c.in_err-next.ensures)
+    (via (want.arms c.args.levels ∷ []) ((want.statement (suc c.args.levels)) ∷ []) _ (word_token words.Case c.args.span ∷ c.args.given.now) _ (λ s. (want.word words.End ∷ s)) (λ s. entered (want.statement (suc c.args.levels)) (expr_parts c.args.levels ++ (want.word words.Of ∷ (want.arm c.args.levels ∷ (want.arms c.args.levels ∷ (want.word words.End ∷ []))))) s _ _ _ refl refl ∙ c.in_ok-value.ensures.moves (want.word words.Of ∷ (want.arm c.args.levels ∷ (want.arms c.args.levels ∷ (want.word words.End ∷ s)))) ∙ after_word words.Of (want.arm c.args.levels ∷ (want.arms c.args.levels ∷ (want.word words.End ∷ s))) c.in_ok-of.ensures ∙ c.in_ok-first.ensures.moves (want.arms c.args.levels ∷ (want.word words.End ∷ s))) c.in_err-next.ensures)
 
 pub choice-returns-in_err-end : goal.choice-returns-in_err-end
 choice-returns-in_err-end t c =
     exits _ _ c.from_residual-in_err-end.result c.in_err-end.field-0.0 c.from_residual-in_err-end.ensures.1
-    (via (want.word words.End ∷ []) ((want.statement (suc c.args.levels)) ∷ []) _ (word_token words.Case c.args.place ∷ c.args.given.now) _ (λ s. s) (λ s. entered (want.statement (suc c.args.levels)) (expr_parts c.args.levels ++ (want.word words.Of ∷ (want.arm c.args.levels ∷ (want.arms c.args.levels ∷ (want.word words.End ∷ []))))) s _ _ _ refl refl ∙ c.in_ok-value.ensures.moves (want.word words.Of ∷ (want.arm c.args.levels ∷ (want.arms c.args.levels ∷ (want.word words.End ∷ s)))) ∙ after_word words.Of (want.arm c.args.levels ∷ (want.arms c.args.levels ∷ (want.word words.End ∷ s))) c.in_ok-of.ensures ∙ c.in_ok-first.ensures.moves (want.arms c.args.levels ∷ (want.word words.End ∷ s)) ∙ c.in_ok-next.ensures.moves (want.word words.End ∷ s)) c.in_err-end.ensures)
+    (via (want.word words.End ∷ []) ((want.statement (suc c.args.levels)) ∷ []) _ (word_token words.Case c.args.span ∷ c.args.given.now) _ (λ s. s) (λ s. entered (want.statement (suc c.args.levels)) (expr_parts c.args.levels ++ (want.word words.Of ∷ (want.arm c.args.levels ∷ (want.arms c.args.levels ∷ (want.word words.End ∷ []))))) s _ _ _ refl refl ∙ c.in_ok-value.ensures.moves (want.word words.Of ∷ (want.arm c.args.levels ∷ (want.arms c.args.levels ∷ (want.word words.End ∷ s)))) ∙ after_word words.Of (want.arm c.args.levels ∷ (want.arms c.args.levels ∷ (want.word words.End ∷ s))) c.in_ok-of.ensures ∙ c.in_ok-first.ensures.moves (want.arms c.args.levels ∷ (want.word words.End ∷ s)) ∙ c.in_ok-next.ensures.moves (want.word words.End ∷ s)) c.in_err-end.ensures)
 
 pub choice-returns : goal.choice-returns
 choice-returns t c =
@@ -292,17 +292,17 @@ more_arms-returns t c =
 pub repetition-returns-in_err-parts : goal.repetition-returns-in_err-parts
 repetition-returns-in_err-parts t c =
     exits _ _ c.from_residual.result c.in_err-parts.field-0.0 c.from_residual.ensures.1
-    (via (guarded_parts words.Do c.args.levels ++ []) ((want.statement (suc c.args.levels)) ∷ []) _ (word_token words.While c.args.place ∷ c.args.given.now) _ (λ s. (want.elsifs words.Do c.args.levels ∷ (want.word words.End ∷ s))) (λ s. entered (want.statement (suc c.args.levels)) (guarded_parts words.Do c.args.levels ++ (want.elsifs words.Do c.args.levels ∷ (want.word words.End ∷ []))) s _ _ _ refl refl) c.in_err-parts.ensures)
+    (via (guarded_parts words.Do c.args.levels ++ []) ((want.statement (suc c.args.levels)) ∷ []) _ (word_token words.While c.args.span ∷ c.args.given.now) _ (λ s. (want.elsifs words.Do c.args.levels ∷ (want.word words.End ∷ s))) (λ s. entered (want.statement (suc c.args.levels)) (guarded_parts words.Do c.args.levels ++ (want.elsifs words.Do c.args.levels ∷ (want.word words.End ∷ []))) s _ _ _ refl refl) c.in_err-parts.ensures)
 
 pub repetition-returns-in_err-next : goal.repetition-returns-in_err-next
 repetition-returns-in_err-next t c =
     exits _ _ c.from_residual-in_err-next.result c.in_err-next.field-0.0 c.from_residual-in_err-next.ensures.1
-    (via (want.elsifs words.Do c.args.levels ∷ []) ((want.statement (suc c.args.levels)) ∷ []) _ (word_token words.While c.args.place ∷ c.args.given.now) _ (λ s. (want.word words.End ∷ s)) (λ s. entered (want.statement (suc c.args.levels)) (guarded_parts words.Do c.args.levels ++ (want.elsifs words.Do c.args.levels ∷ (want.word words.End ∷ []))) s _ _ _ refl refl ∙ c.in_ok-parts.ensures.moves (want.elsifs words.Do c.args.levels ∷ (want.word words.End ∷ s))) c.in_err-next.ensures)
+    (via (want.elsifs words.Do c.args.levels ∷ []) ((want.statement (suc c.args.levels)) ∷ []) _ (word_token words.While c.args.span ∷ c.args.given.now) _ (λ s. (want.word words.End ∷ s)) (λ s. entered (want.statement (suc c.args.levels)) (guarded_parts words.Do c.args.levels ++ (want.elsifs words.Do c.args.levels ∷ (want.word words.End ∷ []))) s _ _ _ refl refl ∙ c.in_ok-parts.ensures.moves (want.elsifs words.Do c.args.levels ∷ (want.word words.End ∷ s))) c.in_err-next.ensures)
 
 pub repetition-returns-in_err-end : goal.repetition-returns-in_err-end
 repetition-returns-in_err-end t c =
     exits _ _ c.from_residual-in_err-end.result c.in_err-end.field-0.0 c.from_residual-in_err-end.ensures.1
-    (via (want.word words.End ∷ []) ((want.statement (suc c.args.levels)) ∷ []) _ (word_token words.While c.args.place ∷ c.args.given.now) _ (λ s. s) (λ s. entered (want.statement (suc c.args.levels)) (guarded_parts words.Do c.args.levels ++ (want.elsifs words.Do c.args.levels ∷ (want.word words.End ∷ []))) s _ _ _ refl refl ∙ c.in_ok-parts.ensures.moves (want.elsifs words.Do c.args.levels ∷ (want.word words.End ∷ s)) ∙ c.in_ok-next.ensures.moves (want.word words.End ∷ s)) c.in_err-end.ensures)
+    (via (want.word words.End ∷ []) ((want.statement (suc c.args.levels)) ∷ []) _ (word_token words.While c.args.span ∷ c.args.given.now) _ (λ s. s) (λ s. entered (want.statement (suc c.args.levels)) (guarded_parts words.Do c.args.levels ++ (want.elsifs words.Do c.args.levels ∷ (want.word words.End ∷ []))) s _ _ _ refl refl ∙ c.in_ok-parts.ensures.moves (want.elsifs words.Do c.args.levels ∷ (want.word words.End ∷ s)) ∙ c.in_ok-next.ensures.moves (want.word words.End ∷ s)) c.in_err-end.ensures)
 
 pub repetition-returns : goal.repetition-returns
 repetition-returns t c =
@@ -316,17 +316,17 @@ repetition-returns t c =
 pub repeat-returns-in_err-body : goal.repeat-returns-in_err-body
 repeat-returns-in_err-body t c =
     exits _ _ c.from_residual.result c.in_err-body.field-0.0 c.from_residual.ensures.1
-    (via (statements_parts c.args.levels ++ []) ((want.statement (suc c.args.levels)) ∷ []) _ (word_token words.Repeat c.args.place ∷ c.args.given.now) _ (λ s. (want.word words.Until ∷ (expr_parts c.args.levels ++ s))) (λ s. entered (want.statement (suc c.args.levels)) (statements_parts c.args.levels ++ (want.word words.Until ∷ (expr_parts c.args.levels ++ []))) s _ _ _ refl refl) c.in_err-body.ensures)
+    (via (statements_parts c.args.levels ++ []) ((want.statement (suc c.args.levels)) ∷ []) _ (word_token words.Repeat c.args.span ∷ c.args.given.now) _ (λ s. (want.word words.Until ∷ (expr_parts c.args.levels ++ s))) (λ s. entered (want.statement (suc c.args.levels)) (statements_parts c.args.levels ++ (want.word words.Until ∷ (expr_parts c.args.levels ++ []))) s _ _ _ refl refl) c.in_err-body.ensures)
 
 pub repeat-returns-in_err-until : goal.repeat-returns-in_err-until
 repeat-returns-in_err-until t c =
     exits _ _ c.from_residual-in_err-until.result c.in_err-until.field-0.0 c.from_residual-in_err-until.ensures.1
-    (via (want.word words.Until ∷ []) ((want.statement (suc c.args.levels)) ∷ []) _ (word_token words.Repeat c.args.place ∷ c.args.given.now) _ (λ s. (expr_parts c.args.levels ++ s)) (λ s. entered (want.statement (suc c.args.levels)) (statements_parts c.args.levels ++ (want.word words.Until ∷ (expr_parts c.args.levels ++ []))) s _ _ _ refl refl ∙ c.in_ok-body.ensures.moves (want.word words.Until ∷ (expr_parts c.args.levels ++ s))) c.in_err-until.ensures)
+    (via (want.word words.Until ∷ []) ((want.statement (suc c.args.levels)) ∷ []) _ (word_token words.Repeat c.args.span ∷ c.args.given.now) _ (λ s. (expr_parts c.args.levels ++ s)) (λ s. entered (want.statement (suc c.args.levels)) (statements_parts c.args.levels ++ (want.word words.Until ∷ (expr_parts c.args.levels ++ []))) s _ _ _ refl refl ∙ c.in_ok-body.ensures.moves (want.word words.Until ∷ (expr_parts c.args.levels ++ s))) c.in_err-until.ensures)
 
 pub repeat-returns-in_err-condition : goal.repeat-returns-in_err-condition
 repeat-returns-in_err-condition t c =
     exits _ _ c.from_residual-in_err-condition.result c.in_err-condition.field-0.0 c.from_residual-in_err-condition.ensures.1
-    (via (expr_parts c.args.levels ++ []) ((want.statement (suc c.args.levels)) ∷ []) _ (word_token words.Repeat c.args.place ∷ c.args.given.now) _ (λ s. s) (λ s. entered (want.statement (suc c.args.levels)) (statements_parts c.args.levels ++ (want.word words.Until ∷ (expr_parts c.args.levels ++ []))) s _ _ _ refl refl ∙ c.in_ok-body.ensures.moves (want.word words.Until ∷ (expr_parts c.args.levels ++ s)) ∙ after_word words.Until (expr_parts c.args.levels ++ s) c.in_ok-until.ensures) c.in_err-condition.ensures)
+    (via (expr_parts c.args.levels ++ []) ((want.statement (suc c.args.levels)) ∷ []) _ (word_token words.Repeat c.args.span ∷ c.args.given.now) _ (λ s. s) (λ s. entered (want.statement (suc c.args.levels)) (statements_parts c.args.levels ++ (want.word words.Until ∷ (expr_parts c.args.levels ++ []))) s _ _ _ refl refl ∙ c.in_ok-body.ensures.moves (want.word words.Until ∷ (expr_parts c.args.levels ++ s)) ∙ after_word words.Until (expr_parts c.args.levels ++ s) c.in_ok-until.ensures) c.in_err-condition.ensures)
 
 pub repeat-returns : goal.repeat-returns
 repeat-returns t c =
@@ -340,47 +340,47 @@ repeat-returns t c =
 pub counted-returns-in_err-variable : goal.counted-returns-in_err-variable
 counted-returns-in_err-variable t c =
     exits _ _ c.from_residual.result c.in_err-variable.field-0.0 c.from_residual.ensures.1
-    (via (want.ident ∷ []) ((want.statement (suc c.args.levels)) ∷ []) _ (word_token words.For c.args.place ∷ c.args.given.now) _ (λ s. (want.symbol symbols.Becomes ∷ (expr_parts c.args.levels ++ (want.word words.To ∷ (expr_parts c.args.levels ++ (want.some_step c.args.levels ∷ (want.word words.Do ∷ (statements_parts c.args.levels ++ (want.word words.End ∷ s))))))))) (λ s. entered (want.statement (suc c.args.levels)) (want.ident ∷ (want.symbol symbols.Becomes ∷ (expr_parts c.args.levels ++ (want.word words.To ∷ (expr_parts c.args.levels ++ (want.some_step c.args.levels ∷ (want.word words.Do ∷ (statements_parts c.args.levels ++ (want.word words.End ∷ []))))))))) s _ _ _ refl refl) c.in_err-variable.ensures)
+    (via (want.ident ∷ []) ((want.statement (suc c.args.levels)) ∷ []) _ (word_token words.For c.args.span ∷ c.args.given.now) _ (λ s. (want.symbol symbols.Becomes ∷ (expr_parts c.args.levels ++ (want.word words.To ∷ (expr_parts c.args.levels ++ (want.some_step c.args.levels ∷ (want.word words.Do ∷ (statements_parts c.args.levels ++ (want.word words.End ∷ s))))))))) (λ s. entered (want.statement (suc c.args.levels)) (want.ident ∷ (want.symbol symbols.Becomes ∷ (expr_parts c.args.levels ++ (want.word words.To ∷ (expr_parts c.args.levels ++ (want.some_step c.args.levels ∷ (want.word words.Do ∷ (statements_parts c.args.levels ++ (want.word words.End ∷ []))))))))) s _ _ _ refl refl) c.in_err-variable.ensures)
 
 pub counted-returns-in_err-becomes : goal.counted-returns-in_err-becomes
 counted-returns-in_err-becomes t c =
     exits _ _ c.from_residual-in_err-becomes.result c.in_err-becomes.field-0.0 c.from_residual-in_err-becomes.ensures.1
-    (via (want.symbol symbols.Becomes ∷ []) ((want.statement (suc c.args.levels)) ∷ []) _ (word_token words.For c.args.place ∷ c.args.given.now) _ (λ s. (expr_parts c.args.levels ++ (want.word words.To ∷ (expr_parts c.args.levels ++ (want.some_step c.args.levels ∷ (want.word words.Do ∷ (statements_parts c.args.levels ++ (want.word words.End ∷ s)))))))) (λ s. entered (want.statement (suc c.args.levels)) (want.ident ∷ (want.symbol symbols.Becomes ∷ (expr_parts c.args.levels ++ (want.word words.To ∷ (expr_parts c.args.levels ++ (want.some_step c.args.levels ∷ (want.word words.Do ∷ (statements_parts c.args.levels ++ (want.word words.End ∷ []))))))))) s _ _ _ refl refl ∙ after_ident (want.symbol symbols.Becomes ∷ (expr_parts c.args.levels ++ (want.word words.To ∷ (expr_parts c.args.levels ++ (want.some_step c.args.levels ∷ (want.word words.Do ∷ (statements_parts c.args.levels ++ (want.word words.End ∷ s)))))))) c.in_ok-variable.ensures) c.in_err-becomes.ensures)
+    (via (want.symbol symbols.Becomes ∷ []) ((want.statement (suc c.args.levels)) ∷ []) _ (word_token words.For c.args.span ∷ c.args.given.now) _ (λ s. (expr_parts c.args.levels ++ (want.word words.To ∷ (expr_parts c.args.levels ++ (want.some_step c.args.levels ∷ (want.word words.Do ∷ (statements_parts c.args.levels ++ (want.word words.End ∷ s)))))))) (λ s. entered (want.statement (suc c.args.levels)) (want.ident ∷ (want.symbol symbols.Becomes ∷ (expr_parts c.args.levels ++ (want.word words.To ∷ (expr_parts c.args.levels ++ (want.some_step c.args.levels ∷ (want.word words.Do ∷ (statements_parts c.args.levels ++ (want.word words.End ∷ []))))))))) s _ _ _ refl refl ∙ after_ident (want.symbol symbols.Becomes ∷ (expr_parts c.args.levels ++ (want.word words.To ∷ (expr_parts c.args.levels ++ (want.some_step c.args.levels ∷ (want.word words.Do ∷ (statements_parts c.args.levels ++ (want.word words.End ∷ s)))))))) c.in_ok-variable.ensures) c.in_err-becomes.ensures)
 
 pub counted-returns-in_err-from : goal.counted-returns-in_err-from
 counted-returns-in_err-from t c =
     exits _ _ c.from_residual-in_err-from.result c.in_err-from.field-0.0 c.from_residual-in_err-from.ensures.1
-    (via (expr_parts c.args.levels ++ []) ((want.statement (suc c.args.levels)) ∷ []) _ (word_token words.For c.args.place ∷ c.args.given.now) _ (λ s. (want.word words.To ∷ (expr_parts c.args.levels ++ (want.some_step c.args.levels ∷ (want.word words.Do ∷ (statements_parts c.args.levels ++ (want.word words.End ∷ s))))))) (λ s. entered (want.statement (suc c.args.levels)) (want.ident ∷ (want.symbol symbols.Becomes ∷ (expr_parts c.args.levels ++ (want.word words.To ∷ (expr_parts c.args.levels ++ (want.some_step c.args.levels ∷ (want.word words.Do ∷ (statements_parts c.args.levels ++ (want.word words.End ∷ []))))))))) s _ _ _ refl refl ∙ after_ident (want.symbol symbols.Becomes ∷ (expr_parts c.args.levels ++ (want.word words.To ∷ (expr_parts c.args.levels ++ (want.some_step c.args.levels ∷ (want.word words.Do ∷ (statements_parts c.args.levels ++ (want.word words.End ∷ s)))))))) c.in_ok-variable.ensures ∙ after_symbol symbols.Becomes (expr_parts c.args.levels ++ (want.word words.To ∷ (expr_parts c.args.levels ++ (want.some_step c.args.levels ∷ (want.word words.Do ∷ (statements_parts c.args.levels ++ (want.word words.End ∷ s))))))) c.in_ok-becomes.ensures) c.in_err-from.ensures)
+    (via (expr_parts c.args.levels ++ []) ((want.statement (suc c.args.levels)) ∷ []) _ (word_token words.For c.args.span ∷ c.args.given.now) _ (λ s. (want.word words.To ∷ (expr_parts c.args.levels ++ (want.some_step c.args.levels ∷ (want.word words.Do ∷ (statements_parts c.args.levels ++ (want.word words.End ∷ s))))))) (λ s. entered (want.statement (suc c.args.levels)) (want.ident ∷ (want.symbol symbols.Becomes ∷ (expr_parts c.args.levels ++ (want.word words.To ∷ (expr_parts c.args.levels ++ (want.some_step c.args.levels ∷ (want.word words.Do ∷ (statements_parts c.args.levels ++ (want.word words.End ∷ []))))))))) s _ _ _ refl refl ∙ after_ident (want.symbol symbols.Becomes ∷ (expr_parts c.args.levels ++ (want.word words.To ∷ (expr_parts c.args.levels ++ (want.some_step c.args.levels ∷ (want.word words.Do ∷ (statements_parts c.args.levels ++ (want.word words.End ∷ s)))))))) c.in_ok-variable.ensures ∙ after_symbol symbols.Becomes (expr_parts c.args.levels ++ (want.word words.To ∷ (expr_parts c.args.levels ++ (want.some_step c.args.levels ∷ (want.word words.Do ∷ (statements_parts c.args.levels ++ (want.word words.End ∷ s))))))) c.in_ok-becomes.ensures) c.in_err-from.ensures)
 
 pub counted-returns-in_err-to_word : goal.counted-returns-in_err-to_word
 counted-returns-in_err-to_word t c =
     exits _ _ c.from_residual-in_err-to_word.result c.in_err-to_word.field-0.0 c.from_residual-in_err-to_word.ensures.1
-    (via (want.word words.To ∷ []) ((want.statement (suc c.args.levels)) ∷ []) _ (word_token words.For c.args.place ∷ c.args.given.now) _ (λ s. (expr_parts c.args.levels ++ (want.some_step c.args.levels ∷ (want.word words.Do ∷ (statements_parts c.args.levels ++ (want.word words.End ∷ s)))))) (λ s. entered (want.statement (suc c.args.levels)) (want.ident ∷ (want.symbol symbols.Becomes ∷ (expr_parts c.args.levels ++ (want.word words.To ∷ (expr_parts c.args.levels ++ (want.some_step c.args.levels ∷ (want.word words.Do ∷ (statements_parts c.args.levels ++ (want.word words.End ∷ []))))))))) s _ _ _ refl refl ∙ after_ident (want.symbol symbols.Becomes ∷ (expr_parts c.args.levels ++ (want.word words.To ∷ (expr_parts c.args.levels ++ (want.some_step c.args.levels ∷ (want.word words.Do ∷ (statements_parts c.args.levels ++ (want.word words.End ∷ s)))))))) c.in_ok-variable.ensures ∙ after_symbol symbols.Becomes (expr_parts c.args.levels ++ (want.word words.To ∷ (expr_parts c.args.levels ++ (want.some_step c.args.levels ∷ (want.word words.Do ∷ (statements_parts c.args.levels ++ (want.word words.End ∷ s))))))) c.in_ok-becomes.ensures ∙ c.in_ok-from.ensures.moves (want.word words.To ∷ (expr_parts c.args.levels ++ (want.some_step c.args.levels ∷ (want.word words.Do ∷ (statements_parts c.args.levels ++ (want.word words.End ∷ s))))))) c.in_err-to_word.ensures)
+    (via (want.word words.To ∷ []) ((want.statement (suc c.args.levels)) ∷ []) _ (word_token words.For c.args.span ∷ c.args.given.now) _ (λ s. (expr_parts c.args.levels ++ (want.some_step c.args.levels ∷ (want.word words.Do ∷ (statements_parts c.args.levels ++ (want.word words.End ∷ s)))))) (λ s. entered (want.statement (suc c.args.levels)) (want.ident ∷ (want.symbol symbols.Becomes ∷ (expr_parts c.args.levels ++ (want.word words.To ∷ (expr_parts c.args.levels ++ (want.some_step c.args.levels ∷ (want.word words.Do ∷ (statements_parts c.args.levels ++ (want.word words.End ∷ []))))))))) s _ _ _ refl refl ∙ after_ident (want.symbol symbols.Becomes ∷ (expr_parts c.args.levels ++ (want.word words.To ∷ (expr_parts c.args.levels ++ (want.some_step c.args.levels ∷ (want.word words.Do ∷ (statements_parts c.args.levels ++ (want.word words.End ∷ s)))))))) c.in_ok-variable.ensures ∙ after_symbol symbols.Becomes (expr_parts c.args.levels ++ (want.word words.To ∷ (expr_parts c.args.levels ++ (want.some_step c.args.levels ∷ (want.word words.Do ∷ (statements_parts c.args.levels ++ (want.word words.End ∷ s))))))) c.in_ok-becomes.ensures ∙ c.in_ok-from.ensures.moves (want.word words.To ∷ (expr_parts c.args.levels ++ (want.some_step c.args.levels ∷ (want.word words.Do ∷ (statements_parts c.args.levels ++ (want.word words.End ∷ s))))))) c.in_err-to_word.ensures)
 
 pub counted-returns-in_err-limit : goal.counted-returns-in_err-limit
 counted-returns-in_err-limit t c =
     exits _ _ c.from_residual-in_err-limit.result c.in_err-limit.field-0.0 c.from_residual-in_err-limit.ensures.1
-    (via (expr_parts c.args.levels ++ []) ((want.statement (suc c.args.levels)) ∷ []) _ (word_token words.For c.args.place ∷ c.args.given.now) _ (λ s. (want.some_step c.args.levels ∷ (want.word words.Do ∷ (statements_parts c.args.levels ++ (want.word words.End ∷ s))))) (λ s. entered (want.statement (suc c.args.levels)) (want.ident ∷ (want.symbol symbols.Becomes ∷ (expr_parts c.args.levels ++ (want.word words.To ∷ (expr_parts c.args.levels ++ (want.some_step c.args.levels ∷ (want.word words.Do ∷ (statements_parts c.args.levels ++ (want.word words.End ∷ []))))))))) s _ _ _ refl refl ∙ after_ident (want.symbol symbols.Becomes ∷ (expr_parts c.args.levels ++ (want.word words.To ∷ (expr_parts c.args.levels ++ (want.some_step c.args.levels ∷ (want.word words.Do ∷ (statements_parts c.args.levels ++ (want.word words.End ∷ s)))))))) c.in_ok-variable.ensures ∙ after_symbol symbols.Becomes (expr_parts c.args.levels ++ (want.word words.To ∷ (expr_parts c.args.levels ++ (want.some_step c.args.levels ∷ (want.word words.Do ∷ (statements_parts c.args.levels ++ (want.word words.End ∷ s))))))) c.in_ok-becomes.ensures ∙ c.in_ok-from.ensures.moves (want.word words.To ∷ (expr_parts c.args.levels ++ (want.some_step c.args.levels ∷ (want.word words.Do ∷ (statements_parts c.args.levels ++ (want.word words.End ∷ s)))))) ∙ after_word words.To (expr_parts c.args.levels ++ (want.some_step c.args.levels ∷ (want.word words.Do ∷ (statements_parts c.args.levels ++ (want.word words.End ∷ s))))) c.in_ok-to_word.ensures) c.in_err-limit.ensures)
+    (via (expr_parts c.args.levels ++ []) ((want.statement (suc c.args.levels)) ∷ []) _ (word_token words.For c.args.span ∷ c.args.given.now) _ (λ s. (want.some_step c.args.levels ∷ (want.word words.Do ∷ (statements_parts c.args.levels ++ (want.word words.End ∷ s))))) (λ s. entered (want.statement (suc c.args.levels)) (want.ident ∷ (want.symbol symbols.Becomes ∷ (expr_parts c.args.levels ++ (want.word words.To ∷ (expr_parts c.args.levels ++ (want.some_step c.args.levels ∷ (want.word words.Do ∷ (statements_parts c.args.levels ++ (want.word words.End ∷ []))))))))) s _ _ _ refl refl ∙ after_ident (want.symbol symbols.Becomes ∷ (expr_parts c.args.levels ++ (want.word words.To ∷ (expr_parts c.args.levels ++ (want.some_step c.args.levels ∷ (want.word words.Do ∷ (statements_parts c.args.levels ++ (want.word words.End ∷ s)))))))) c.in_ok-variable.ensures ∙ after_symbol symbols.Becomes (expr_parts c.args.levels ++ (want.word words.To ∷ (expr_parts c.args.levels ++ (want.some_step c.args.levels ∷ (want.word words.Do ∷ (statements_parts c.args.levels ++ (want.word words.End ∷ s))))))) c.in_ok-becomes.ensures ∙ c.in_ok-from.ensures.moves (want.word words.To ∷ (expr_parts c.args.levels ++ (want.some_step c.args.levels ∷ (want.word words.Do ∷ (statements_parts c.args.levels ++ (want.word words.End ∷ s)))))) ∙ after_word words.To (expr_parts c.args.levels ++ (want.some_step c.args.levels ∷ (want.word words.Do ∷ (statements_parts c.args.levels ++ (want.word words.End ∷ s))))) c.in_ok-to_word.ensures) c.in_err-limit.ensures)
 
 pub counted-returns-in_err-step : goal.counted-returns-in_err-step
 counted-returns-in_err-step t c =
     exits _ _ c.from_residual-in_err-step.result c.in_err-step.field-0.0 c.from_residual-in_err-step.ensures.1
-    (via (want.some_step c.args.levels ∷ []) ((want.statement (suc c.args.levels)) ∷ []) _ (word_token words.For c.args.place ∷ c.args.given.now) _ (λ s. (want.word words.Do ∷ (statements_parts c.args.levels ++ (want.word words.End ∷ s)))) (λ s. entered (want.statement (suc c.args.levels)) (want.ident ∷ (want.symbol symbols.Becomes ∷ (expr_parts c.args.levels ++ (want.word words.To ∷ (expr_parts c.args.levels ++ (want.some_step c.args.levels ∷ (want.word words.Do ∷ (statements_parts c.args.levels ++ (want.word words.End ∷ []))))))))) s _ _ _ refl refl ∙ after_ident (want.symbol symbols.Becomes ∷ (expr_parts c.args.levels ++ (want.word words.To ∷ (expr_parts c.args.levels ++ (want.some_step c.args.levels ∷ (want.word words.Do ∷ (statements_parts c.args.levels ++ (want.word words.End ∷ s)))))))) c.in_ok-variable.ensures ∙ after_symbol symbols.Becomes (expr_parts c.args.levels ++ (want.word words.To ∷ (expr_parts c.args.levels ++ (want.some_step c.args.levels ∷ (want.word words.Do ∷ (statements_parts c.args.levels ++ (want.word words.End ∷ s))))))) c.in_ok-becomes.ensures ∙ c.in_ok-from.ensures.moves (want.word words.To ∷ (expr_parts c.args.levels ++ (want.some_step c.args.levels ∷ (want.word words.Do ∷ (statements_parts c.args.levels ++ (want.word words.End ∷ s)))))) ∙ after_word words.To (expr_parts c.args.levels ++ (want.some_step c.args.levels ∷ (want.word words.Do ∷ (statements_parts c.args.levels ++ (want.word words.End ∷ s))))) c.in_ok-to_word.ensures ∙ c.in_ok-limit.ensures.moves (want.some_step c.args.levels ∷ (want.word words.Do ∷ (statements_parts c.args.levels ++ (want.word words.End ∷ s))))) c.in_err-step.ensures)
+    (via (want.some_step c.args.levels ∷ []) ((want.statement (suc c.args.levels)) ∷ []) _ (word_token words.For c.args.span ∷ c.args.given.now) _ (λ s. (want.word words.Do ∷ (statements_parts c.args.levels ++ (want.word words.End ∷ s)))) (λ s. entered (want.statement (suc c.args.levels)) (want.ident ∷ (want.symbol symbols.Becomes ∷ (expr_parts c.args.levels ++ (want.word words.To ∷ (expr_parts c.args.levels ++ (want.some_step c.args.levels ∷ (want.word words.Do ∷ (statements_parts c.args.levels ++ (want.word words.End ∷ []))))))))) s _ _ _ refl refl ∙ after_ident (want.symbol symbols.Becomes ∷ (expr_parts c.args.levels ++ (want.word words.To ∷ (expr_parts c.args.levels ++ (want.some_step c.args.levels ∷ (want.word words.Do ∷ (statements_parts c.args.levels ++ (want.word words.End ∷ s)))))))) c.in_ok-variable.ensures ∙ after_symbol symbols.Becomes (expr_parts c.args.levels ++ (want.word words.To ∷ (expr_parts c.args.levels ++ (want.some_step c.args.levels ∷ (want.word words.Do ∷ (statements_parts c.args.levels ++ (want.word words.End ∷ s))))))) c.in_ok-becomes.ensures ∙ c.in_ok-from.ensures.moves (want.word words.To ∷ (expr_parts c.args.levels ++ (want.some_step c.args.levels ∷ (want.word words.Do ∷ (statements_parts c.args.levels ++ (want.word words.End ∷ s)))))) ∙ after_word words.To (expr_parts c.args.levels ++ (want.some_step c.args.levels ∷ (want.word words.Do ∷ (statements_parts c.args.levels ++ (want.word words.End ∷ s))))) c.in_ok-to_word.ensures ∙ c.in_ok-limit.ensures.moves (want.some_step c.args.levels ∷ (want.word words.Do ∷ (statements_parts c.args.levels ++ (want.word words.End ∷ s))))) c.in_err-step.ensures)
 
 pub counted-returns-in_err-body_word : goal.counted-returns-in_err-body_word
 counted-returns-in_err-body_word t c =
     exits _ _ c.from_residual-in_err-body_word.result c.in_err-body_word.field-0.0 c.from_residual-in_err-body_word.ensures.1
-    (via (want.word words.Do ∷ []) ((want.statement (suc c.args.levels)) ∷ []) _ (word_token words.For c.args.place ∷ c.args.given.now) _ (λ s. (statements_parts c.args.levels ++ (want.word words.End ∷ s))) (λ s. entered (want.statement (suc c.args.levels)) (want.ident ∷ (want.symbol symbols.Becomes ∷ (expr_parts c.args.levels ++ (want.word words.To ∷ (expr_parts c.args.levels ++ (want.some_step c.args.levels ∷ (want.word words.Do ∷ (statements_parts c.args.levels ++ (want.word words.End ∷ []))))))))) s _ _ _ refl refl ∙ after_ident (want.symbol symbols.Becomes ∷ (expr_parts c.args.levels ++ (want.word words.To ∷ (expr_parts c.args.levels ++ (want.some_step c.args.levels ∷ (want.word words.Do ∷ (statements_parts c.args.levels ++ (want.word words.End ∷ s)))))))) c.in_ok-variable.ensures ∙ after_symbol symbols.Becomes (expr_parts c.args.levels ++ (want.word words.To ∷ (expr_parts c.args.levels ++ (want.some_step c.args.levels ∷ (want.word words.Do ∷ (statements_parts c.args.levels ++ (want.word words.End ∷ s))))))) c.in_ok-becomes.ensures ∙ c.in_ok-from.ensures.moves (want.word words.To ∷ (expr_parts c.args.levels ++ (want.some_step c.args.levels ∷ (want.word words.Do ∷ (statements_parts c.args.levels ++ (want.word words.End ∷ s)))))) ∙ after_word words.To (expr_parts c.args.levels ++ (want.some_step c.args.levels ∷ (want.word words.Do ∷ (statements_parts c.args.levels ++ (want.word words.End ∷ s))))) c.in_ok-to_word.ensures ∙ c.in_ok-limit.ensures.moves (want.some_step c.args.levels ∷ (want.word words.Do ∷ (statements_parts c.args.levels ++ (want.word words.End ∷ s)))) ∙ c.in_ok-step.ensures.moves (want.word words.Do ∷ (statements_parts c.args.levels ++ (want.word words.End ∷ s)))) c.in_err-body_word.ensures)
+    (via (want.word words.Do ∷ []) ((want.statement (suc c.args.levels)) ∷ []) _ (word_token words.For c.args.span ∷ c.args.given.now) _ (λ s. (statements_parts c.args.levels ++ (want.word words.End ∷ s))) (λ s. entered (want.statement (suc c.args.levels)) (want.ident ∷ (want.symbol symbols.Becomes ∷ (expr_parts c.args.levels ++ (want.word words.To ∷ (expr_parts c.args.levels ++ (want.some_step c.args.levels ∷ (want.word words.Do ∷ (statements_parts c.args.levels ++ (want.word words.End ∷ []))))))))) s _ _ _ refl refl ∙ after_ident (want.symbol symbols.Becomes ∷ (expr_parts c.args.levels ++ (want.word words.To ∷ (expr_parts c.args.levels ++ (want.some_step c.args.levels ∷ (want.word words.Do ∷ (statements_parts c.args.levels ++ (want.word words.End ∷ s)))))))) c.in_ok-variable.ensures ∙ after_symbol symbols.Becomes (expr_parts c.args.levels ++ (want.word words.To ∷ (expr_parts c.args.levels ++ (want.some_step c.args.levels ∷ (want.word words.Do ∷ (statements_parts c.args.levels ++ (want.word words.End ∷ s))))))) c.in_ok-becomes.ensures ∙ c.in_ok-from.ensures.moves (want.word words.To ∷ (expr_parts c.args.levels ++ (want.some_step c.args.levels ∷ (want.word words.Do ∷ (statements_parts c.args.levels ++ (want.word words.End ∷ s)))))) ∙ after_word words.To (expr_parts c.args.levels ++ (want.some_step c.args.levels ∷ (want.word words.Do ∷ (statements_parts c.args.levels ++ (want.word words.End ∷ s))))) c.in_ok-to_word.ensures ∙ c.in_ok-limit.ensures.moves (want.some_step c.args.levels ∷ (want.word words.Do ∷ (statements_parts c.args.levels ++ (want.word words.End ∷ s)))) ∙ c.in_ok-step.ensures.moves (want.word words.Do ∷ (statements_parts c.args.levels ++ (want.word words.End ∷ s)))) c.in_err-body_word.ensures)
 
 pub counted-returns-in_err-body : goal.counted-returns-in_err-body
 counted-returns-in_err-body t c =
     exits _ _ c.from_residual-in_err-body.result c.in_err-body.field-0.0 c.from_residual-in_err-body.ensures.1
-    (via (statements_parts c.args.levels ++ []) ((want.statement (suc c.args.levels)) ∷ []) _ (word_token words.For c.args.place ∷ c.args.given.now) _ (λ s. (want.word words.End ∷ s)) (λ s. entered (want.statement (suc c.args.levels)) (want.ident ∷ (want.symbol symbols.Becomes ∷ (expr_parts c.args.levels ++ (want.word words.To ∷ (expr_parts c.args.levels ++ (want.some_step c.args.levels ∷ (want.word words.Do ∷ (statements_parts c.args.levels ++ (want.word words.End ∷ []))))))))) s _ _ _ refl refl ∙ after_ident (want.symbol symbols.Becomes ∷ (expr_parts c.args.levels ++ (want.word words.To ∷ (expr_parts c.args.levels ++ (want.some_step c.args.levels ∷ (want.word words.Do ∷ (statements_parts c.args.levels ++ (want.word words.End ∷ s)))))))) c.in_ok-variable.ensures ∙ after_symbol symbols.Becomes (expr_parts c.args.levels ++ (want.word words.To ∷ (expr_parts c.args.levels ++ (want.some_step c.args.levels ∷ (want.word words.Do ∷ (statements_parts c.args.levels ++ (want.word words.End ∷ s))))))) c.in_ok-becomes.ensures ∙ c.in_ok-from.ensures.moves (want.word words.To ∷ (expr_parts c.args.levels ++ (want.some_step c.args.levels ∷ (want.word words.Do ∷ (statements_parts c.args.levels ++ (want.word words.End ∷ s)))))) ∙ after_word words.To (expr_parts c.args.levels ++ (want.some_step c.args.levels ∷ (want.word words.Do ∷ (statements_parts c.args.levels ++ (want.word words.End ∷ s))))) c.in_ok-to_word.ensures ∙ c.in_ok-limit.ensures.moves (want.some_step c.args.levels ∷ (want.word words.Do ∷ (statements_parts c.args.levels ++ (want.word words.End ∷ s)))) ∙ c.in_ok-step.ensures.moves (want.word words.Do ∷ (statements_parts c.args.levels ++ (want.word words.End ∷ s))) ∙ after_word words.Do (statements_parts c.args.levels ++ (want.word words.End ∷ s)) c.in_ok-body_word.ensures) c.in_err-body.ensures)
+    (via (statements_parts c.args.levels ++ []) ((want.statement (suc c.args.levels)) ∷ []) _ (word_token words.For c.args.span ∷ c.args.given.now) _ (λ s. (want.word words.End ∷ s)) (λ s. entered (want.statement (suc c.args.levels)) (want.ident ∷ (want.symbol symbols.Becomes ∷ (expr_parts c.args.levels ++ (want.word words.To ∷ (expr_parts c.args.levels ++ (want.some_step c.args.levels ∷ (want.word words.Do ∷ (statements_parts c.args.levels ++ (want.word words.End ∷ []))))))))) s _ _ _ refl refl ∙ after_ident (want.symbol symbols.Becomes ∷ (expr_parts c.args.levels ++ (want.word words.To ∷ (expr_parts c.args.levels ++ (want.some_step c.args.levels ∷ (want.word words.Do ∷ (statements_parts c.args.levels ++ (want.word words.End ∷ s)))))))) c.in_ok-variable.ensures ∙ after_symbol symbols.Becomes (expr_parts c.args.levels ++ (want.word words.To ∷ (expr_parts c.args.levels ++ (want.some_step c.args.levels ∷ (want.word words.Do ∷ (statements_parts c.args.levels ++ (want.word words.End ∷ s))))))) c.in_ok-becomes.ensures ∙ c.in_ok-from.ensures.moves (want.word words.To ∷ (expr_parts c.args.levels ++ (want.some_step c.args.levels ∷ (want.word words.Do ∷ (statements_parts c.args.levels ++ (want.word words.End ∷ s)))))) ∙ after_word words.To (expr_parts c.args.levels ++ (want.some_step c.args.levels ∷ (want.word words.Do ∷ (statements_parts c.args.levels ++ (want.word words.End ∷ s))))) c.in_ok-to_word.ensures ∙ c.in_ok-limit.ensures.moves (want.some_step c.args.levels ∷ (want.word words.Do ∷ (statements_parts c.args.levels ++ (want.word words.End ∷ s)))) ∙ c.in_ok-step.ensures.moves (want.word words.Do ∷ (statements_parts c.args.levels ++ (want.word words.End ∷ s))) ∙ after_word words.Do (statements_parts c.args.levels ++ (want.word words.End ∷ s)) c.in_ok-body_word.ensures) c.in_err-body.ensures)
 
 pub counted-returns-in_err-end : goal.counted-returns-in_err-end
 counted-returns-in_err-end t c =
     exits _ _ c.from_residual-in_err-end.result c.in_err-end.field-0.0 c.from_residual-in_err-end.ensures.1
-    (via (want.word words.End ∷ []) ((want.statement (suc c.args.levels)) ∷ []) _ (word_token words.For c.args.place ∷ c.args.given.now) _ (λ s. s) (λ s. entered (want.statement (suc c.args.levels)) (want.ident ∷ (want.symbol symbols.Becomes ∷ (expr_parts c.args.levels ++ (want.word words.To ∷ (expr_parts c.args.levels ++ (want.some_step c.args.levels ∷ (want.word words.Do ∷ (statements_parts c.args.levels ++ (want.word words.End ∷ []))))))))) s _ _ _ refl refl ∙ after_ident (want.symbol symbols.Becomes ∷ (expr_parts c.args.levels ++ (want.word words.To ∷ (expr_parts c.args.levels ++ (want.some_step c.args.levels ∷ (want.word words.Do ∷ (statements_parts c.args.levels ++ (want.word words.End ∷ s)))))))) c.in_ok-variable.ensures ∙ after_symbol symbols.Becomes (expr_parts c.args.levels ++ (want.word words.To ∷ (expr_parts c.args.levels ++ (want.some_step c.args.levels ∷ (want.word words.Do ∷ (statements_parts c.args.levels ++ (want.word words.End ∷ s))))))) c.in_ok-becomes.ensures ∙ c.in_ok-from.ensures.moves (want.word words.To ∷ (expr_parts c.args.levels ++ (want.some_step c.args.levels ∷ (want.word words.Do ∷ (statements_parts c.args.levels ++ (want.word words.End ∷ s)))))) ∙ after_word words.To (expr_parts c.args.levels ++ (want.some_step c.args.levels ∷ (want.word words.Do ∷ (statements_parts c.args.levels ++ (want.word words.End ∷ s))))) c.in_ok-to_word.ensures ∙ c.in_ok-limit.ensures.moves (want.some_step c.args.levels ∷ (want.word words.Do ∷ (statements_parts c.args.levels ++ (want.word words.End ∷ s)))) ∙ c.in_ok-step.ensures.moves (want.word words.Do ∷ (statements_parts c.args.levels ++ (want.word words.End ∷ s))) ∙ after_word words.Do (statements_parts c.args.levels ++ (want.word words.End ∷ s)) c.in_ok-body_word.ensures ∙ c.in_ok-body.ensures.moves (want.word words.End ∷ s)) c.in_err-end.ensures)
+    (via (want.word words.End ∷ []) ((want.statement (suc c.args.levels)) ∷ []) _ (word_token words.For c.args.span ∷ c.args.given.now) _ (λ s. s) (λ s. entered (want.statement (suc c.args.levels)) (want.ident ∷ (want.symbol symbols.Becomes ∷ (expr_parts c.args.levels ++ (want.word words.To ∷ (expr_parts c.args.levels ++ (want.some_step c.args.levels ∷ (want.word words.Do ∷ (statements_parts c.args.levels ++ (want.word words.End ∷ []))))))))) s _ _ _ refl refl ∙ after_ident (want.symbol symbols.Becomes ∷ (expr_parts c.args.levels ++ (want.word words.To ∷ (expr_parts c.args.levels ++ (want.some_step c.args.levels ∷ (want.word words.Do ∷ (statements_parts c.args.levels ++ (want.word words.End ∷ s)))))))) c.in_ok-variable.ensures ∙ after_symbol symbols.Becomes (expr_parts c.args.levels ++ (want.word words.To ∷ (expr_parts c.args.levels ++ (want.some_step c.args.levels ∷ (want.word words.Do ∷ (statements_parts c.args.levels ++ (want.word words.End ∷ s))))))) c.in_ok-becomes.ensures ∙ c.in_ok-from.ensures.moves (want.word words.To ∷ (expr_parts c.args.levels ++ (want.some_step c.args.levels ∷ (want.word words.Do ∷ (statements_parts c.args.levels ++ (want.word words.End ∷ s)))))) ∙ after_word words.To (expr_parts c.args.levels ++ (want.some_step c.args.levels ∷ (want.word words.Do ∷ (statements_parts c.args.levels ++ (want.word words.End ∷ s))))) c.in_ok-to_word.ensures ∙ c.in_ok-limit.ensures.moves (want.some_step c.args.levels ∷ (want.word words.Do ∷ (statements_parts c.args.levels ++ (want.word words.End ∷ s)))) ∙ c.in_ok-step.ensures.moves (want.word words.Do ∷ (statements_parts c.args.levels ++ (want.word words.End ∷ s))) ∙ after_word words.Do (statements_parts c.args.levels ++ (want.word words.End ∷ s)) c.in_ok-body_word.ensures ∙ c.in_ok-body.ensures.moves (want.word words.End ∷ s)) c.in_err-end.ensures)
 
 pub counted-returns : goal.counted-returns
 counted-returns t c =

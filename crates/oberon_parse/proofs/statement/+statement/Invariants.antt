@@ -3,7 +3,7 @@ use Rattle.oberon_tree.specs.Print.{print_more_statements, print_elsifs, print_m
 use Rattle.oberon_tree.specs.Levels.{depth_of_more_statements, depth_of_elsifs, depth_of_more_arms}
 use Rattle.oberon_tree.specs.Memory.{more_statements_list, elsifs_list, more_arms_list}
 use Rattle.oberon_parse.specs.Expected as want
-use Rattle.oberon_parse.specs.Reads.{ReadsSome}
+use Rattle.oberon_parse.specs.Reading.{ReadsSome}
 use Rattle.oberon_parse.proofs.statement.+statement.Given as goal
 
 abbrev pub decreases-statements : goal.decreases-statements
@@ -52,12 +52,12 @@ invariant-more_statements-loop-semicolon l =
 abbrev pub decreases-more_statements-loop-semicolon : goal.decreases-more_statements-loop-semicolon
 decreases-more_statements-loop-semicolon l = length l.rest
 
-abbrev pub invariant-elsifs-loop-place : goal.invariant-elsifs-loop-place
-invariant-elsifs-loop-place l =
+abbrev pub invariant-elsifs-loop-span : goal.invariant-elsifs-loop-span
+invariant-elsifs-loop-span l =
     ReadsSome (want.elsifs l.joint l.levels) l.levels l.given (print_elsifs l.joint (elsifs_list l.items.items)) (depth_of_elsifs (elsifs_list l.items.items)) l.rest
 
-abbrev pub decreases-elsifs-loop-place : goal.decreases-elsifs-loop-place
-decreases-elsifs-loop-place l = length l.rest
+abbrev pub decreases-elsifs-loop-span : goal.decreases-elsifs-loop-span
+decreases-elsifs-loop-span l = length l.rest
 
 abbrev pub invariant-more_arms-loop-bar : goal.invariant-more_arms-loop-bar
 invariant-more_arms-loop-bar l =

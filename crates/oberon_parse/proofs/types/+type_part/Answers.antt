@@ -37,17 +37,17 @@ any_type-returns t c = halts ((want.type_part c.args.levels) ∷ []) c.args.give
 pub array-returns-in_err-lengths : goal.array-returns-in_err-lengths
 array-returns-in_err-lengths t c =
     exits _ _ c.from_residual.result c.in_err-lengths.field-0.0 c.from_residual.ensures.1
-    (via (exprs_parts c.args.levels ++ []) ((want.type_part (suc c.args.levels)) ∷ []) _ (word_token words.Array c.args.place ∷ c.args.given.now) _ (λ s. (want.word words.Of ∷ (want.type_part c.args.levels ∷ s))) (λ s. entered (want.type_part (suc c.args.levels)) (exprs_parts c.args.levels ++ (want.word words.Of ∷ (want.type_part c.args.levels ∷ []))) s _ _ _ refl refl) c.in_err-lengths.ensures)
+    (via (exprs_parts c.args.levels ++ []) ((want.type_part (suc c.args.levels)) ∷ []) _ (word_token words.Array c.args.span ∷ c.args.given.now) _ (λ s. (want.word words.Of ∷ (want.type_part c.args.levels ∷ s))) (λ s. entered (want.type_part (suc c.args.levels)) (exprs_parts c.args.levels ++ (want.word words.Of ∷ (want.type_part c.args.levels ∷ []))) s _ _ _ refl refl) c.in_err-lengths.ensures)
 
 pub array-returns-in_err-of : goal.array-returns-in_err-of
 array-returns-in_err-of t c =
     exits _ _ c.from_residual-in_err-of.result c.in_err-of.field-0.0 c.from_residual-in_err-of.ensures.1
-    (via (want.word words.Of ∷ []) ((want.type_part (suc c.args.levels)) ∷ []) _ (word_token words.Array c.args.place ∷ c.args.given.now) _ (λ s. (want.type_part c.args.levels ∷ s)) (λ s. entered (want.type_part (suc c.args.levels)) (exprs_parts c.args.levels ++ (want.word words.Of ∷ (want.type_part c.args.levels ∷ []))) s _ _ _ refl refl ∙ c.in_ok-lengths.ensures.moves (want.word words.Of ∷ (want.type_part c.args.levels ∷ s))) c.in_err-of.ensures)
+    (via (want.word words.Of ∷ []) ((want.type_part (suc c.args.levels)) ∷ []) _ (word_token words.Array c.args.span ∷ c.args.given.now) _ (λ s. (want.type_part c.args.levels ∷ s)) (λ s. entered (want.type_part (suc c.args.levels)) (exprs_parts c.args.levels ++ (want.word words.Of ∷ (want.type_part c.args.levels ∷ []))) s _ _ _ refl refl ∙ c.in_ok-lengths.ensures.moves (want.word words.Of ∷ (want.type_part c.args.levels ∷ s))) c.in_err-of.ensures)
 
 pub array-returns-in_err-element : goal.array-returns-in_err-element
 array-returns-in_err-element t c =
     exits _ _ c.from_residual-in_err-element.result c.in_err-element.field-0.0 c.from_residual-in_err-element.ensures.1
-    (via (want.type_part c.args.levels ∷ []) ((want.type_part (suc c.args.levels)) ∷ []) _ (word_token words.Array c.args.place ∷ c.args.given.now) _ (λ s. s) (λ s. entered (want.type_part (suc c.args.levels)) (exprs_parts c.args.levels ++ (want.word words.Of ∷ (want.type_part c.args.levels ∷ []))) s _ _ _ refl refl ∙ c.in_ok-lengths.ensures.moves (want.word words.Of ∷ (want.type_part c.args.levels ∷ s)) ∙ after_word words.Of (want.type_part c.args.levels ∷ s) c.in_ok-of.ensures) c.in_err-element.ensures)
+    (via (want.type_part c.args.levels ∷ []) ((want.type_part (suc c.args.levels)) ∷ []) _ (word_token words.Array c.args.span ∷ c.args.given.now) _ (λ s. s) (λ s. entered (want.type_part (suc c.args.levels)) (exprs_parts c.args.levels ++ (want.word words.Of ∷ (want.type_part c.args.levels ∷ []))) s _ _ _ refl refl ∙ c.in_ok-lengths.ensures.moves (want.word words.Of ∷ (want.type_part c.args.levels ∷ s)) ∙ after_word words.Of (want.type_part c.args.levels ∷ s) c.in_ok-of.ensures) c.in_err-element.ensures)
 
 pub array-returns : goal.array-returns
 array-returns t c =
@@ -61,7 +61,7 @@ array-returns t c =
 pub record_type-returns-in_err-base : goal.record_type-returns-in_err-base
 record_type-returns-in_err-base t c =
     exits _ _ c.from_residual.result c.in_err-base.field-0.0 c.from_residual.ensures.1
-    (via (want.some_base ∷ []) ((want.type_part (suc c.args.levels)) ∷ []) _ (word_token words.Record c.args.place ∷ c.args.given.now) _ (λ s. (want.rest_of_record c.args.levels ∷ s)) (λ s. entered (want.type_part (suc c.args.levels)) (want.some_base ∷ (want.rest_of_record c.args.levels ∷ [])) s _ _ _ refl refl) c.in_err-base.ensures)
+    (via (want.some_base ∷ []) ((want.type_part (suc c.args.levels)) ∷ []) _ (word_token words.Record c.args.span ∷ c.args.given.now) _ (λ s. (want.rest_of_record c.args.levels ∷ s)) (λ s. entered (want.type_part (suc c.args.levels)) (want.some_base ∷ (want.rest_of_record c.args.levels ∷ [])) s _ _ _ refl refl) c.in_err-base.ensures)
 
 pub record_type-returns-in-Some : goal.record_type-returns-in-Some
 record_type-returns-in-Some t c =
@@ -75,12 +75,12 @@ record_type-returns-in-Some t c =
 pub record_type-returns-in_err-lists : goal.record_type-returns-in_err-lists
 record_type-returns-in_err-lists t c =
     exits _ _ c.from_residual-in_err-lists.result c.in_err-lists.field-0.0 c.from_residual-in_err-lists.ensures.1
-    (via (fields_parts c.args.levels ++ (want.fields c.args.levels ∷ [])) ((want.type_part (suc c.args.levels)) ∷ []) _ (word_token words.Record c.args.place ∷ c.args.given.now) _ (λ s. (want.word words.End ∷ s)) (λ s. entered (want.type_part (suc c.args.levels)) (want.some_base ∷ (want.rest_of_record c.args.levels ∷ [])) s _ _ _ refl refl ∙ c.in_ok-base.ensures.moves (want.rest_of_record c.args.levels ∷ s) ∙ expand_record c.args.levels s c.in_ok-base.rest.now c.in_default.ensures.none) c.in_err-lists.ensures)
+    (via (fields_parts c.args.levels ++ (want.fields c.args.levels ∷ [])) ((want.type_part (suc c.args.levels)) ∷ []) _ (word_token words.Record c.args.span ∷ c.args.given.now) _ (λ s. (want.word words.End ∷ s)) (λ s. entered (want.type_part (suc c.args.levels)) (want.some_base ∷ (want.rest_of_record c.args.levels ∷ [])) s _ _ _ refl refl ∙ c.in_ok-base.ensures.moves (want.rest_of_record c.args.levels ∷ s) ∙ expand_record c.args.levels s c.in_ok-base.rest.now c.in_default.ensures.none) c.in_err-lists.ensures)
 
 pub record_type-returns-in_err-end : goal.record_type-returns-in_err-end
 record_type-returns-in_err-end t c =
     exits _ _ c.from_residual-in_err-end.result c.in_err-end.field-0.0 c.from_residual-in_err-end.ensures.1
-    (via (want.word words.End ∷ []) ((want.type_part (suc c.args.levels)) ∷ []) _ (word_token words.Record c.args.place ∷ c.args.given.now) _ (λ s. s) (λ s. entered (want.type_part (suc c.args.levels)) (want.some_base ∷ (want.rest_of_record c.args.levels ∷ [])) s _ _ _ refl refl ∙ c.in_ok-base.ensures.moves (want.rest_of_record c.args.levels ∷ s) ∙ expand_record c.args.levels s c.in_ok-base.rest.now c.in_default.ensures.none ∙ c.in_ok-lists.ensures.moves (want.word words.End ∷ s)) c.in_err-end.ensures)
+    (via (want.word words.End ∷ []) ((want.type_part (suc c.args.levels)) ∷ []) _ (word_token words.Record c.args.span ∷ c.args.given.now) _ (λ s. s) (λ s. entered (want.type_part (suc c.args.levels)) (want.some_base ∷ (want.rest_of_record c.args.levels ∷ [])) s _ _ _ refl refl ∙ c.in_ok-base.ensures.moves (want.rest_of_record c.args.levels ∷ s) ∙ expand_record c.args.levels s c.in_ok-base.rest.now c.in_default.ensures.none ∙ c.in_ok-lists.ensures.moves (want.word words.End ∷ s)) c.in_err-end.ensures)
 
 pub record_type-returns : goal.record_type-returns
 record_type-returns t c =

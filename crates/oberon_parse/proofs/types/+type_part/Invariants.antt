@@ -3,7 +3,7 @@ use Rattle.oberon_tree.specs.Print.{print_more_fields}
 use Rattle.oberon_tree.specs.Levels.{depth_of_more_fields}
 use Rattle.oberon_tree.specs.Memory.{more_fields_list}
 use Rattle.oberon_parse.specs.Expected as want
-use Rattle.oberon_parse.specs.Reads.{ReadsSome}
+use Rattle.oberon_parse.specs.Reading.{ReadsSome}
 use Rattle.oberon_parse.proofs.types.+type_part.Given as goal
 
 abbrev pub decreases-any_type : goal.decreases-any_type

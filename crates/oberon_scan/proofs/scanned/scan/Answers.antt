@@ -2,7 +2,7 @@ use Rattle.std.proofs.Common.{length, sym, subst, ◌∙◌, arith}
 use Rattle.std.proofs.lemmas.Bool.{eqb-true}
 use Rattle.std.proofs.lemmas.List.{nil_from_length}
 use Rattle.oberon_scan.specs.Lexis.{part}
-use Rattle.oberon_scan.specs.Piece.{IsShown, Adds}
+use Rattle.oberon_scan.specs.Piece.{IsWithinText, Adds}
 use Rattle.oberon_scan.proofs.Going.{piece_goes}
 use Rattle.oberon_scan.proofs.Sweeping.{begins_swept, piece_shown, sweeps_on, ends_swept}
 use Rattle.oberon_scan.proofs.OneCut.{one_cut}
@@ -21,7 +21,7 @@ overflow_sub-span-in-pieces c =
 pub add-requires-clause-shown : goal.add-requires-clause-shown
 add-requires-clause-shown c =
     let text = c.args.text.now in
-    subst (λ xs. IsShown xs c.in_ok-piece.piece (part text c.pieces.rest.now c.in_ok-piece.after.now)) (sym c.pieces.invariant.text_is)
+    subst (λ xs. IsWithinText xs c.in_ok-piece.piece (part text c.pieces.rest.now c.in_ok-piece.after.now)) (sym c.pieces.invariant.text_is)
     (piece_shown text c.pieces.rest.now c.in_ok-piece.after.now c.in_ok-piece.piece c.pieces.invariant.within (c.in_ok-piece.ensures {u = tt}))
 
 pub pieces-smaller : goal.pieces-smaller

@@ -1,5 +1,6 @@
-use crate::{ParseRefusal, parse};
-use oberon_scan::scan;
+//! `parse`: the first bad token of changed sentences of each construct, of whole texts, and of deep nests.
+use crate::texts::{repeated, scanned};
+use oberon_parse::{ParseRefusal, parse};
 use std::alloc::{AllocError, Global};
 use std::test::Fail;
 
@@ -77,13 +78,9 @@ enum Change {
 
 /// The number of tokens before the first bad one, or nothing for a module.
 fn first_bad(alloc: Global, text: &str) -> Result<Option<usize>, Fail> {
-    if text.len() > 1_000_000 {
-        return Err(Fail::from("too long"));
-    }
-    let scanned = scan(alloc, text.as_bytes())?;
-    match parse(alloc, &scanned.tokens) {
+    match parse(alloc, &scanned(alloc, text)?.tokens) {
         Ok(_) => Ok(None),
-        Err(ParseRefusal::FirstBad(place)) => Ok(Some(place)),
+        Err(ParseRefusal::FirstBad(index)) => Ok(Some(index)),
         Err(ParseRefusal::NoMemory) => Err(Fail::from("no memory")),
     }
 }
@@ -328,16 +325,12 @@ const NESTS: [Nest; 13] = [
 ];
 
 fn nested(alloc: Global, nest: &Nest, count: usize) -> Result<String, AllocError> {
-    let mut out = String::from_str(alloc, nest.front)?;
-    for _ in 0..count {
-        out.push_str(nest.opening)?;
-    }
-    out.push_str(nest.inner)?;
-    for _ in 0..count {
-        out.push_str(nest.closing)?;
-    }
-    out.push_str(nest.back)?;
-    Ok(out)
+    let opened = repeated(alloc, nest.opening, count)?;
+    let closed = repeated(alloc, nest.closing, count)?;
+    let Nest {
+        front, inner, back, ..
+    } = nest;
+    format!(in alloc; "{front}{opened}{inner}{closed}{back}")
 }
 
 #[test]

@@ -1,19 +1,17 @@
 -- What the functions that read a module tell: what they read is a tree's tokens, and leads the machine past
 -- the parts that they read; or where the machine stops.
-use Rattle.std.specs.Prelude.{◌≡◌, ℕ, suc, ◌≤◌, ◌+◌, Bool, true, List, [], ◌∷◌, ◌++◌, length, Some}
+use Rattle.std.specs.Prelude.{◌≡◌, ℕ, suc, ◌≤◌, Bool, true, List, [], ◌∷◌, ◌++◌, length, Some}
 use Rattle.oberon_scan.specs.declared.token.Token.{Token}
 use Rattle.oberon_scan.specs.declared.token.TokenKind.{TokenKind}
 use Rattle.oberon_parse.specs.declared.stop.Stop.{Stop}
 use Rattle.oberon_parse.specs.declared.stop.Stop.TheVariants as stop
 use Rattle.oberon_parse.specs.Expected.{Expected}
 use Rattle.oberon_scan.specs.declared.token.Symbol.TheVariants as symbols
-use Rattle.oberon_tree.specs.declared.module.OpenArray.{OpenArray}
-use Rattle.oberon_tree.specs.Print.{print_each, print_open_array}
 use Rattle.oberon_parse.specs.Expected as want
 use Rattle.oberon_parse.specs.Machine.{statements_parts, stops}
 
 -- these parts, as a tree that prints so and opens so many levels
-pub record Reads (parts : List Expected) (limit : ℕ) (given : List Token) (print : List Token → List Token) (depth : ℕ) (rest : List Token) : Type 0 where
+pub record ReadsParts (parts : List Expected) (limit : ℕ) (given : List Token) (print : List Token → List Token) (depth : ℕ) (rest : List Token) : Type 0 where
   pub spelled : given ≡ print rest
   pub moves : (s : List Expected) → stops (parts ++ s) given ≡ stops s rest
   pub within : depth ≤ limit
@@ -27,7 +25,7 @@ pub record ReadsSome (part : Expected) (limit : ℕ) (given : List Token) (print
   pub shorter : length rest ≤ length given
 
 -- the machine stops with so many tokens left
-pub record Stops (parts : List Expected) (given : List Token) (e : Stop) : Type 0 where
+pub record StopsAt (parts : List Expected) (given : List Token) (e : Stop) : Type 0 where
   pub there : (n : ℕ) → e ≡ stop.Left n → (s : List Expected) → stops (parts ++ s) given ≡ Some n
 
 -- one token, of which this test holds, and which is a tree's
@@ -46,12 +44,5 @@ pub record FirstValue (given : List Token) (print : List Token → List Token) (
 
 -- the machine stops in such a value
 pub record StopsValue (given : List Token) (e : Stop) : Type 0 where
-  pub value : Stops (want.value ∷ []) given e
-  pub arm : (d : ℕ) → Stops (want.arm d ∷ []) given e
-
--- some ARRAY OF of a formal type, each a level
-pub record ReadsOpens (levels left : ℕ) (given : List Token) (items : List OpenArray) (rest : List Token) : Type 0 where
-  pub spelled : given ≡ print_each print_open_array items rest
-  pub moves : (s : List Expected) → stops (want.opens levels ∷ s) given ≡ stops (want.opens left ∷ s) rest
-  pub within : length items + left ≡ levels
-  pub shorter : length rest ≤ length given
+  pub value : StopsAt (want.value ∷ []) given e
+  pub arm : (d : ℕ) → StopsAt (want.arm d ∷ []) given e

@@ -1,7 +1,6 @@
-ghost use Rattle.std.specs.Prelude.{◌<◌, ◌^◌, length};
-
-use crate::{Scanned, TokenKind, scan};
-use ob_text::NoMemory;
+//! `scan`: each kind of token and of fault, and large texts.
+use crate::texts::{listed, repeated, scanned};
+use oberon_scan::{Token, TokenKind};
 use std::alloc::{AllocError, Global};
 use std::test::Fail;
 
@@ -107,15 +106,10 @@ const TABLE: [(&str, &str, &str); 34] = [
     ),
 ];
 
-fn scan_text(alloc: Global, text: &str) -> Result<Scanned, NoMemory>
-    requires { length text.now < 2 ^ 30 }
-{
-    scan(alloc, text.as_bytes())
-}
-
-fn tokens(alloc: Global, scanned: &Scanned) -> Result<String, AllocError> {
+/// Each token as its span and its value.
+fn told(alloc: Global, tokens: &[Token]) -> Result<String, AllocError> {
     let mut out = String::new(alloc);
-    for token in &scanned.tokens {
+    for token in tokens {
         if out.len() > 0 {
             out.push_str(" ")?;
         }
@@ -143,86 +137,46 @@ fn value_of(alloc: Global, kind: &TokenKind) -> Result<String, AllocError> {
     }
 }
 
-fn faults(alloc: Global, scanned: &Scanned) -> Result<String, AllocError> {
-    let mut out = String::new(alloc);
-    for fault in &scanned.faults {
-        if out.len() > 0 {
-            out.push_str(" ")?;
-        }
-        let start = fault.range.start;
-        let end = fault.range.end;
-        let code = fault.code.name();
-        write!(
-            out,
-            "{}:{}-{}:{} {code};",
-            start.line, start.character, end.line, end.character
-        )?;
-    }
-    Ok(out)
-}
-
 #[test]
 fn scans_each_kind(rt: HostRuntime) -> Result<(), Fail> {
     let alloc = rt.alloc();
-    for (text, wanted_tokens, wanted_faults) in TABLE {
-        assert!(rt; text.len() < 1000);
-        let scanned = scan_text(alloc, text)?;
-        assert_eq!(rt;
-            tokens(alloc, &scanned)?.as_str(),
-            wanted_tokens,
-            "tokens of {text:?}"
-        );
-        assert_eq!(rt;
-            faults(alloc, &scanned)?.as_str(),
-            wanted_faults,
-            "faults of {text:?}"
-        );
+    for (text, tokens, faults) in TABLE {
+        let found = scanned(alloc, text)?;
+        assert_eq!(rt; told(alloc, &found.tokens)?.as_str(), tokens, "tokens of {text:?}");
+        assert_eq!(rt; listed(alloc, &found.faults)?.as_str(), faults, "faults of {text:?}");
     }
     Ok(())
 }
 
-/// A fault stops nothing.
-#[test]
-fn shows_each_fault(rt: HostRuntime) -> Result<(), Fail> {
-    let alloc = rt.alloc();
-    let mut text = String::from_str(alloc, "MODULE A; ")?;
-    for _ in 0..250 {
-        text.push_str("$ ")?;
-    }
-    text.push_str("END A.")?;
-    assert!(rt; text.len() < 1000);
-    let scanned = scan_text(alloc, text.as_str())?;
-    assert_eq!(rt; scanned.tokens.len(), 6);
-    assert_eq!(rt; scanned.faults.len(), 250);
-    let last = &scanned.faults[249];
-    assert_eq!(rt;
-        (last.range.start.line, last.range.start.character),
-        (0, 508)
-    );
-    Ok(())
-}
-
-/// Each place of a large file of faults is found, in one sweep.
-#[test]
-fn sweeps_a_large_text(rt: HostRuntime) -> Result<(), Fail> {
-    let alloc = rt.alloc();
-    let mut text = String::new(alloc);
-    for _ in 0..2048 {
-        text.push_str(
+/// What stands in front of a piece, the piece and how often it stands there, what stands behind it, and how many
+/// tokens and faults the whole has, with its last fault.
+const LARGE: [(&str, (&str, usize), &str, (usize, usize), &str); 2] = [
+    // A fault stops nothing.
+    ("MODULE A; ", ("$ ", 250), "END A.", (6, 250), "0:508-0:509 badCharacter;"),
+    // Each place of a large file of faults is found, in one sweep.
+    (
+        "",
+        (
             "$$$$$$$$$$$$$$$$$$$$$$$$$$$$$$$$$$$$$$$$$$$$$$$$$$$$$$$$$$$$$$$$$$$$$$$$$$$$$$$$$$$$$$$$$$$$$$$$$$$$$$$$$$$$$$$$$$$$$$$$$$$$$$$\n",
-        )?;
+            2048,
+        ),
+        "",
+        (0, 260_096),
+        "2047:126-2047:127 badCharacter;",
+    ),
+];
+
+#[test]
+fn sweeps_large_texts(rt: HostRuntime) -> Result<(), Fail> {
+    let alloc = rt.alloc();
+    for (front, (piece, count), back, (tokens, faults), last) in LARGE {
+        let middle = repeated(alloc, piece, count)?;
+        let text = format!(in alloc; "{front}{middle}{back}")?;
+        let found = scanned(alloc, text.as_str())?;
+        assert_eq!(rt; found.tokens.len(), tokens);
+        assert_eq!(rt; found.faults.len(), faults);
+        let before = found.faults.len().saturating_sub(1);
+        assert_eq!(rt; listed(alloc, found.faults.split_at(before).1)?.as_str(), last);
     }
-    assert!(rt; text.len() < 1_000_000);
-    let scanned = scan_text(alloc, text.as_str())?;
-    assert_eq!(rt; scanned.faults.len(), 260_096);
-    let last = &scanned.faults[260_095];
-    assert_eq!(rt;
-        (last.range.start.line, last.range.start.character),
-        (2047, 126)
-    );
-    assert_eq!(rt;
-        (last.range.end.line, last.range.end.character),
-        (2047, 127)
-    );
     Ok(())
 }

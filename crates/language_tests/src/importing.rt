@@ -1,6 +1,7 @@
-use crate::imports_of;
+//! `imports_of`: the modules that a module imports, from a copy of its tree.
+use crate::texts::scanned;
+use oberon_imports::imports_of;
 use oberon_parse::parse;
-use oberon_scan::scan;
 use std::alloc::Global;
 use std::test::Fail;
 
@@ -14,15 +15,13 @@ const IMPORTS: [(&str, &str); 4] = [
 
 fn imported(alloc: Global, imports: &str) -> Result<String, Fail> {
     let text = format!(in alloc; "MODULE A; {imports} END A.")?;
-    if text.len() > 1_000_000 {
-        return Err(Fail::from("too long"));
-    }
-    let scanned = scan(alloc, text.as_str().as_bytes())?;
-    let Ok(tree) = parse(alloc, &scanned.tokens) else {
+    let Ok(tree) = parse(alloc, &scanned(alloc, text.as_str())?.tokens) else {
         return Err(Fail::from("no module"));
     };
+    let copy = tree.copy()?;
+    drop(tree);
     let mut out = String::new(alloc);
-    for name in &imports_of(alloc, &tree)? {
+    for name in &imports_of(alloc, &copy)? {
         out.push_str(String::from_utf8_lossy(alloc, name.as_slice())?.as_str())?;
         out.push_str(";")?;
     }

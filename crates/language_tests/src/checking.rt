@@ -1,6 +1,8 @@
-use crate::diagnose;
-use ob_text::{Code, Diagnostic, Held, TEXT_LIMIT, Text};
-use std::alloc::{AllocError, Global};
+//! `diagnose`: the diagnostics of whole documents.
+use crate::texts::{listed, repeated};
+use ob_text::{Code, Diagnostic, Held, Text};
+use oberon_check::diagnose;
+use std::alloc::Global;
 use std::test::Fail;
 
 /// A text and its diagnostics, each its range and its code.
@@ -28,26 +30,9 @@ const TABLE: [(&str, &str); 14] = [
     ("MODULE A;\nEND (* A. *)\n", "1:3-1:3 badToken;"),
 ];
 
-fn printed(alloc: Global, list: &[Diagnostic]) -> Result<String, AllocError> {
-    let mut out = String::new(alloc);
-    for diagnostic in list {
-        if out.len() > 0 {
-            out.push_str(" ")?;
-        }
-        let start = diagnostic.range.start;
-        let end = diagnostic.range.end;
-        let code = diagnostic.code.name();
-        write!(
-            out,
-            "{}:{}-{}:{} {code};",
-            start.line, start.character, end.line, end.character
-        )?;
-    }
-    Ok(out)
-}
-
+/// The diagnostics of a text.
 fn found(alloc: Global, text: &str) -> Result<Vec<Diagnostic>, Fail> {
-    if text.len() > TEXT_LIMIT {
+    if text.len() > 262_144 {
         return Err(Fail::from("too long"));
     }
     let held = Held::Text(Text::new(alloc, text.as_bytes())?);
@@ -55,8 +40,7 @@ fn found(alloc: Global, text: &str) -> Result<Vec<Diagnostic>, Fail> {
 }
 
 fn shown(alloc: Global, text: &str) -> Result<String, Fail> {
-    let list = found(alloc, text)?;
-    Ok(printed(alloc, &list)?)
+    Ok(listed(alloc, &found(alloc, text)?)?)
 }
 
 #[test]
@@ -71,31 +55,21 @@ fn diagnoses_each_text(rt: HostRuntime) -> Result<(), Fail> {
 #[test]
 fn diagnoses_what_is_no_text(rt: HostRuntime) -> Result<(), Fail> {
     let alloc = rt.alloc();
-    let absent = diagnose(alloc, &Held::Absent)?;
-    assert_eq!(rt;
-        printed(alloc, &absent)?.as_str(),
-        "0:0-0:0 documentAbsent;"
-    );
-    let large = diagnose(alloc, &Held::TooLarge)?;
-    assert_eq!(rt;
-        printed(alloc, &large)?.as_str(),
-        "0:0-0:0 documentTooLarge;"
-    );
-    let not_text = diagnose(alloc, &Held::NotText)?;
-    assert_eq!(rt;
-        printed(alloc, &not_text)?.as_str(),
-        "0:0-0:0 documentNotText;"
-    );
+    for (held, want) in [
+        (Held::Absent, "0:0-0:0 documentAbsent;"),
+        (Held::TooLarge, "0:0-0:0 documentTooLarge;"),
+        (Held::NotText, "0:0-0:0 documentNotText;"),
+    ] {
+        let list = diagnose(alloc, &held)?;
+        assert_eq!(rt; listed(alloc, &list)?.as_str(), want);
+    }
     Ok(())
 }
 
 #[test]
 fn shows_each_fault(rt: HostRuntime) -> Result<(), Fail> {
     let alloc = rt.alloc();
-    let mut text = String::new(alloc);
-    for _ in 0..250 {
-        text.push_str("$ ")?;
-    }
+    let text = repeated(alloc, "$ ", 250)?;
     let list = found(alloc, text.as_str())?;
     assert_eq!(rt; list.len(), 250);
     for diagnostic in &list {
@@ -104,29 +78,17 @@ fn shows_each_fault(rt: HostRuntime) -> Result<(), Fail> {
     Ok(())
 }
 
-/// A value in so many parentheses.
-fn nested(alloc: Global, count: usize) -> Result<String, AllocError> {
-    let mut text = String::from_str(alloc, "MODULE A; BEGIN x := ")?;
-    for _ in 0..count {
-        text.push_str("(")?;
-    }
-    text.push_str("1")?;
-    for _ in 0..count {
-        text.push_str(")")?;
-    }
-    text.push_str(" END A.")?;
-    Ok(text)
-}
+/// In how many parentheses a value stands, and what is said of it.
+const PARENTHESES: [(usize, &str); 2] = [(64, ""), (65, "0:85-0:86 badToken;")];
 
 #[test]
 fn opens_sixty_four_levels(rt: HostRuntime) -> Result<(), Fail> {
     let alloc = rt.alloc();
-    let most = nested(alloc, 64)?;
-    assert_eq!(rt; shown(alloc, most.as_str())?.as_str(), "");
-    let more = nested(alloc, 65)?;
-    assert_eq!(rt;
-        shown(alloc, more.as_str())?.as_str(),
-        "0:85-0:86 badToken;"
-    );
+    for (count, want) in PARENTHESES {
+        let front = repeated(alloc, "(", count)?;
+        let back = repeated(alloc, ")", count)?;
+        let text = format!(in alloc; "MODULE A; BEGIN x := {front}1{back} END A.")?;
+        assert_eq!(rt; shown(alloc, text.as_str())?.as_str(), want);
+    }
     Ok(())
 }
