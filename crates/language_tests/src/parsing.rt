@@ -328,7 +328,10 @@ fn nested(alloc: Global, nest: &Nest, count: usize) -> Result<String, AllocError
     let opened = repeated(alloc, nest.opening, count)?;
     let closed = repeated(alloc, nest.closing, count)?;
     let Nest {
-        front, inner, back, ..
+        front,
+        inner,
+        back,
+        ..
     } = nest;
     format!(in alloc; "{front}{opened}{inner}{closed}{back}")
 }

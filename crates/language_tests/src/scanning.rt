@@ -142,8 +142,16 @@ fn scans_each_kind(rt: HostRuntime) -> Result<(), Fail> {
     let alloc = rt.alloc();
     for (text, tokens, faults) in TABLE {
         let found = scanned(alloc, text)?;
-        assert_eq!(rt; told(alloc, &found.tokens)?.as_str(), tokens, "tokens of {text:?}");
-        assert_eq!(rt; listed(alloc, &found.faults)?.as_str(), faults, "faults of {text:?}");
+        assert_eq!(rt;
+            told(alloc, &found.tokens)?.as_str(),
+            tokens,
+            "tokens of {text:?}"
+        );
+        assert_eq!(rt;
+            listed(alloc, &found.faults)?.as_str(),
+            faults,
+            "faults of {text:?}"
+        );
     }
     Ok(())
 }
@@ -152,7 +160,13 @@ fn scans_each_kind(rt: HostRuntime) -> Result<(), Fail> {
 /// tokens and faults the whole has, with its last fault.
 const LARGE: [(&str, (&str, usize), &str, (usize, usize), &str); 2] = [
     // A fault stops nothing.
-    ("MODULE A; ", ("$ ", 250), "END A.", (6, 250), "0:508-0:509 badCharacter;"),
+    (
+        "MODULE A; ",
+        ("$ ", 250),
+        "END A.",
+        (6, 250),
+        "0:508-0:509 badCharacter;",
+    ),
     // Each place of a large file of faults is found, in one sweep.
     (
         "",
@@ -176,7 +190,10 @@ fn sweeps_large_texts(rt: HostRuntime) -> Result<(), Fail> {
         assert_eq!(rt; found.tokens.len(), tokens);
         assert_eq!(rt; found.faults.len(), faults);
         let before = found.faults.len().saturating_sub(1);
-        assert_eq!(rt; listed(alloc, found.faults.split_at(before).1)?.as_str(), last);
+        assert_eq!(rt;
+            listed(alloc, found.faults.split_at(before).1)?.as_str(),
+            last
+        );
     }
     Ok(())
 }
