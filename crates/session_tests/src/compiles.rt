@@ -1,5 +1,9 @@
-use crate::support::{Changes, Files, expect_session, tree};
+use crate::rows::{CLOSED, EXIT, INITIALIZE, INITIALIZED, SHUTDOWN, file, framed, joined, run};
+use bsp_cli::{Ended, Status};
+use bsp_edge::{MemSink, MemSource, MemTree};
+use ob_text::{Held, Items, Path, Snapshot, Text};
 use std::alloc::Global;
+use std::process::Abort;
 use std::test::Fail;
 
 pub const APP: &[u8] =
@@ -57,12 +61,66 @@ const UNKNOWN_TARGET: &[u8] =
 const UNREADABLE_2: &[u8] =
     b"{\"error\":{\"code\":-32603,\"message\":\"sources unreadable\"},\"id\":2,\"jsonrpc\":\"2.0\"}";
 
+pub type Files<'a> = &'a [(&'a [u8], &'a [u8])];
+
+/// A tree with these files, of which the second list is put in before the tree's call of that number.
+pub fn tree(
+    alloc: Global,
+    files: Files,
+    changes: &[(u64, &[u8], &[u8])],
+    failing: &[u64],
+) -> Result<MemTree, Fail> {
+    let mut entries = Vec::new(alloc);
+    for (path, text) in files {
+        entries.push(file(alloc, path, text)?)?;
+    }
+    let mut later = Vec::new(alloc);
+    for (call, path, text) in changes {
+        let (path, held) = file(alloc, path, text)?;
+        later.push((*call, path, held))?;
+    }
+    let files = Snapshot {
+        entries: Items::from_vec(entries),
+    };
+    Ok(MemTree::new(alloc, files, later, Vec::from_slice(alloc, failing)?))
+}
+
+/// Runs a session that is opened, sends these requests and is closed, and looks at what is answered
+/// between.
+pub fn expect(
+    rt: &(impl Abort + AllocGlobal),
+    tree: &mut MemTree,
+    requests: &[&[u8]],
+    answers: &[&[u8]],
+) -> Result<(), Fail> {
+    let alloc = rt.alloc();
+    let sent = framed(alloc, requests)?;
+    let session = joined(alloc, &[INITIALIZE, sent.as_slice(), SHUTDOWN, EXIT])?;
+    let answered = framed(alloc, answers)?;
+    let wanted = joined(alloc, &[INITIALIZED, answered.as_slice(), CLOSED])?;
+    let taken = session.len() as u64;
+    let (cuts, quiet, failing) = (Vec::new(alloc), Vec::new(alloc), Vec::new(alloc));
+    let mut input = MemSource::new(session, cuts, quiet, failing);
+    let mut output = MemSink::new(alloc, 65_536, Vec::new(alloc))?;
+    let mut notes = MemSink::new(alloc, 100, Vec::new(alloc))?;
+    let ended = run(alloc, &mut input, tree, &mut output, &mut notes)?;
+    assert_eq!(rt;
+        ended,
+        Ended {
+            status: Status::Closed,
+            taken
+        }
+    );
+    assert!(rt; output.given() == wanted.as_slice(), "other output");
+    Ok(())
+}
+
 #[test]
 fn compiles(rt: HostRuntime) -> Result<(), Fail> {
     let alloc = rt.alloc();
     let app: (&[u8], &[u8]) = (b"oberon-build.json", APP);
     let both: (&[u8], &[u8]) = (b"oberon-build.json", APP_ON_LIB);
-    let cases: [(Files, Changes, &[u64], &[&[u8]], &[&[u8]]); 7] = [
+    let cases: [(Files, &[(u64, &[u8], &[u8])], &[u64], &[&[u8]], &[&[u8]]); 7] = [
         // What was found is shown until it is mended.
         (
             &[app, (b"A.Mod", OPEN_COMMENT)],
@@ -113,7 +171,7 @@ fn compiles(rt: HostRuntime) -> Result<(), Fail> {
     ];
     for (files, changes, failing, requests, answers) in cases {
         let mut tree = tree(alloc, files, changes, failing)?;
-        expect_session(&rt, &mut tree, requests, answers)?;
+        expect(&rt, &mut tree, requests, answers)?;
     }
     Ok(())
 }
@@ -163,5 +221,5 @@ fn publishes_a_long_list_in_pieces(rt: HostRuntime) -> Result<(), Fail> {
         third.as_slice(),
         FAILED_2,
     ];
-    expect_session(&rt, &mut tree, &[COMPILE_2], &answers)
+    expect(&rt, &mut tree, &[COMPILE_2], &answers)
 }

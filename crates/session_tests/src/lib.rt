@@ -1,7 +1,7 @@
 //! The rows of whole sessions, over a source, a tree and sinks in memory.
 //!
 //! It stands on `bsp_cli` and `bsp_edge`, and has no code of its own: a crate with tests is proved twice, so these stand
-//! above the crate that they are of. Begin with `support.rt`, which runs one row, and with `rows.rt`.
+//! above the crate that they are of. Begin with `rows.rt`.
 #![tactic(auto)]
 
 #[cfg(test)]
@@ -10,5 +10,3 @@ mod compiles;
 mod questions;
 #[cfg(test)]
 mod rows;
-#[cfg(test)]
-mod support;

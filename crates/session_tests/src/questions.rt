@@ -1,5 +1,4 @@
-use crate::compiles::APP;
-use crate::support::{Files, expect_session, tree};
+use crate::compiles::{APP, Files, expect, tree};
 use std::test::Fail;
 
 const THREE: &[u8] =
@@ -99,7 +98,7 @@ fn answers_questions(rt: HostRuntime) -> Result<(), Fail> {
     for (workspace, requests, answers) in cases {
         let files: Files = &[(b"oberon-build.json", workspace)];
         let mut tree = tree(alloc, files, &[], &[])?;
-        expect_session(&rt, &mut tree, requests, answers)?;
+        expect(&rt, &mut tree, requests, answers)?;
     }
     Ok(())
 }
