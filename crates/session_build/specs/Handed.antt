@@ -12,7 +12,7 @@ use Rattle.session_law.specs.Order.{Entries}
 
 abbrev pub held_by : Entries → Option ℕ → Option Held
 held_by entries None = None
-held_by entries (Some place) = option_map (λ entry. entry.1) (slice_get entries place)
+held_by entries (Some i) = option_map (λ entry. entry.1) (slice_get entries i)
 
 -- the index leads to what was handed out for each path
 abbrev pub IsIndex : {S : Type 0} → Entries → IndexMap (List ℕ) ℕ S → Type 0

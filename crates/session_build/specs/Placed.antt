@@ -9,6 +9,6 @@ abbrev pub build_of : Space → List ℕ → Option (List ℕ) → Build
 build_of space asked origin = record { space = space; asked = asked; origin = origin }
 
 -- the addresses of a document and of its target are plain and short
-pub record IsPlain (place : Place) : Type 0 where
+pub record HasPlainAddress (place : Place) : Type 0 where
   pub document : IsPlainAddress place.address.document
   pub target : IsPlainAddress place.address.target

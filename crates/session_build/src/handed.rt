@@ -7,7 +7,7 @@ use indexmap::IndexMap;
 use ob_text::{Held, NoMemory, Path};
 use std::alloc::Global;
 
-/// The place of each path among what was handed out. Where a path stands twice its first place counts.
+/// The index of each path among what was handed out. Where a path stands twice its first index counts.
 pub(crate) fn index_of(
     alloc: Global,
     entries: &[(Path, Held)],
@@ -33,7 +33,7 @@ pub(crate) fn held_in<'a>(
     requires { IsIndex entries.now index.now }
     ensures { option_copied result ≡ held_at entries.now path.now }
 {
-    let place = index.get(path)?;
-    let (_, held) = entries.get(*place)?;
+    let first = index.get(path)?;
+    let (_, held) = entries.get(*first)?;
     Some(held)
 }

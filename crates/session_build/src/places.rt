@@ -4,7 +4,7 @@ ghost use Rattle.std.specs.Str.{bytes_eq};
 ghost use Rattle.indexmap.specs.IndexSet.{contains};
 ghost use Rattle.session_law.specs.Builds.{ArePlaces, place_of};
 ghost use Rattle.ob_text.specs.Once.{each_once, once_more};
-ghost use Rattle.session_build.specs.Placed.{IsPlain, build_of};
+ghost use Rattle.session_build.specs.Placed.{HasPlainAddress, build_of};
 ghost use Rattle.target_graph.specs.Workspace.{pairs_of};
 ghost use Rattle.target_graph.specs.declared.target.Pair.{Pair};
 
@@ -24,7 +24,7 @@ pub fn places_of(
     requires { All (λ target. target < length workspace.now.targets) asked.now }
     ensures places { IfOk result (λ places. (origin : Option (List ℕ))
         → ArePlaces (build_of workspace.now asked.now origin) places) }
-    ensures plain { IfOk result (All IsPlain) }
+    ensures plain { IfOk result (All HasPlainAddress) }
     // No two stand at one address.
     ensures distinct { IfOk result (λ places. AllPairs ◌≢◌ (map (λ place. place.address) places)) }
 {
@@ -57,7 +57,7 @@ fn place_at(alloc: Global, workspace: &Workspace, pair: u32) -> Result<Place, No
     requires { pair < length (pairs_of workspace.now.targets) }
     ensures place { IfOk result (λ place. (at : Pair) → slice_get (pairs_of
         workspace.now.targets) pair ≡ Some at → place ≡ place_of workspace.now at) }
-    ensures plain { IfOk result IsPlain }
+    ensures plain { IfOk result HasPlainAddress }
 {
     let at = &workspace.pairs()[pair as usize];
     let path = at.path.copy(alloc)?;

@@ -12,7 +12,7 @@ ghost use Rattle.rpc_peer.specs.Said.{said};
 ghost use Rattle.session_law.specs.Builds.{is_error_severity, publication_said};
 ghost use Rattle.session_law.specs.IsFramed.{IsFramed};
 ghost use Rattle.session_build.specs.Handed.{held_or_absent};
-ghost use Rattle.session_build.specs.Placed.{IsPlain};
+ghost use Rattle.session_build.specs.Placed.{HasPlainAddress};
 ghost use Rattle.session_build.specs.Publishing.{IsPublished, IsPublishedOne};
 ghost use Rattle.task_stream.specs.Showing.{shows};
 
@@ -41,7 +41,7 @@ pub fn publish_all(
     origin: &Option<Text>,
     snapshot: &Snapshot,
 ) -> Result<Published, NoMemory>
-    requires plain { All IsPlain places.now }
+    requires plain { All HasPlainAddress places.now }
     requires distinct { AllPairs ◌≢◌ (map (λ place. place.address) places.now) }
     requires origin { IfSome origin.now (IsTextWithin ORIGIN_LIMIT) }
     requires texts { All (λ entry. IsReadable entry.1) snapshot.now.entries }
@@ -69,7 +69,7 @@ fn publish_one(
     held: Option<&Held>,
     messages: &mut VecDeque<Message>,
 ) -> Result<bool, NoMemory>
-    requires plain { IsPlain place.now }
+    requires plain { HasPlainAddress place.now }
     requires origin { IfSome origin.now (IsTextWithin ORIGIN_LIMIT) }
     requires readable { IfSome held (λ held. IsReadable held.now) }
     ensures { IfOk result (IsPublishedOne (shows shown.old) (shows shown.new) place.now origin.now

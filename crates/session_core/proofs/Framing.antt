@@ -33,7 +33,7 @@ use Rattle.session_core.specs.declared.verdicts.Reason.{Reason}
 use Rattle.session_core.specs.declared.verdicts.Reason.TheVariants as reasons
 use Rattle.target_graph.specs.declared.fault.FaultKind.{FaultKind}
 use Rattle.target_graph.specs.declared.fault.FaultKind.TheVariants.{NoFile, BadJson, BadField, TooMany, NameTwice, UnknownDependency, DependencyCycle, StemTwice}
-use Rattle.session_core.proofs.Literals.{literal_text}
+use Rattle.ob_text.proofs.AsciiLaws.{text_from_test}
 
 -- ---- how long the text of a value is
 
@@ -111,8 +111,8 @@ id_text (Number n) h = tt
 id_text (Text t) h = h.0
 
 either_text : (b : Bool) → IsUtf8 (cond b (codes "parse error") (codes "invalid request"))
-either_text true = literal_text (codes "parse error") refl
-either_text false = literal_text (codes "invalid request") refl
+either_text true = text_from_test (codes "parse error") refl
+either_text false = text_from_test (codes "invalid request") refl
 
 -- ---- the responses
 
@@ -270,14 +270,14 @@ framed_refusal id code text h fits plain short =
 -- ---- the message of each refusal is short, and plain
 
 kind_plain : (kind : FaultKind) → IsUtf8 (kind_text kind)
-kind_plain NoFile = literal_text (codes "NoFile") refl
-kind_plain BadJson = literal_text (codes "BadJson") refl
-kind_plain BadField = literal_text (codes "BadField") refl
-kind_plain TooMany = literal_text (codes "TooMany") refl
-kind_plain NameTwice = literal_text (codes "NameTwice") refl
-kind_plain UnknownDependency = literal_text (codes "UnknownDependency") refl
-kind_plain DependencyCycle = literal_text (codes "DependencyCycle") refl
-kind_plain StemTwice = literal_text (codes "StemTwice") refl
+kind_plain NoFile = text_from_test (codes "NoFile") refl
+kind_plain BadJson = text_from_test (codes "BadJson") refl
+kind_plain BadField = text_from_test (codes "BadField") refl
+kind_plain TooMany = text_from_test (codes "TooMany") refl
+kind_plain NameTwice = text_from_test (codes "NameTwice") refl
+kind_plain UnknownDependency = text_from_test (codes "UnknownDependency") refl
+kind_plain DependencyCycle = text_from_test (codes "DependencyCycle") refl
+kind_plain StemTwice = text_from_test (codes "StemTwice") refl
 
 kind_short : (kind : FaultKind) → length (kind_text kind) ≤ 20
 kind_short NoFile = lit≤ tt
@@ -290,8 +290,8 @@ kind_short DependencyCycle = lit≤ tt
 kind_short StemTwice = lit≤ tt
 
 behind_plain : (name : List ℕ) → IsAscii name → IsUtf8 (name_behind name)
-behind_plain [] plain = literal_text [] refl
-behind_plain (byte ∷ name) plain = IsUtf8-append (codes " ") (byte ∷ name) (literal_text (codes " ") refl) (IsUtf8-from_ascii (byte ∷ name) plain)
+behind_plain [] plain = text_from_test [] refl
+behind_plain (byte ∷ name) plain = IsUtf8-append (codes " ") (byte ∷ name) (text_from_test (codes " ") refl) (IsUtf8-from_ascii (byte ∷ name) plain)
 
 behind_short : (name : List ℕ) → length (name_behind name) ≤ 1 + length name
 behind_short [] = lit≤ tt
@@ -306,18 +306,18 @@ code_fits reasons.InternalError = omega (arith, ints)
 code_fits (reasons.WorkspaceRefused fault) = omega (arith, ints)
 
 framed_reason : (id : Id) (reason : Reason) → IsId id → IsSaid (Refused reason) → IsFramed (failure (Some id) (reason_code reason) (reason_text reason))
-framed_reason id reasons.ServerNotInitialized h said = framed_refusal id _ _ h (code_fits reasons.ServerNotInitialized) (literal_text (codes "server not initialized") refl) (lit≤ tt)
-framed_reason id reasons.InvalidRequest h said = framed_refusal id _ _ h (code_fits reasons.InvalidRequest) (literal_text (codes "invalid request") refl) (lit≤ tt)
-framed_reason id reasons.MethodNotFound h said = framed_refusal id _ _ h (code_fits reasons.MethodNotFound) (literal_text (codes "method not found") refl) (lit≤ tt)
+framed_reason id reasons.ServerNotInitialized h said = framed_refusal id _ _ h (code_fits reasons.ServerNotInitialized) (text_from_test (codes "server not initialized") refl) (lit≤ tt)
+framed_reason id reasons.InvalidRequest h said = framed_refusal id _ _ h (code_fits reasons.InvalidRequest) (text_from_test (codes "invalid request") refl) (lit≤ tt)
+framed_reason id reasons.MethodNotFound h said = framed_refusal id _ _ h (code_fits reasons.MethodNotFound) (text_from_test (codes "method not found") refl) (lit≤ tt)
 framed_reason id (reasons.InvalidParams path) h said =
     framed_refusal id _ _ h (code_fits (reasons.InvalidParams path))
-    (IsUtf8-append (codes "invalid params: ") path (literal_text (codes "invalid params: ") refl) (IsUtf8-from_ascii path said.plain))
+    (IsUtf8-append (codes "invalid params: ") path (text_from_test (codes "invalid params: ") refl) (IsUtf8-from_ascii path said.ascii))
     (let l = length-append (codes "invalid params: ") path in let s = said.short in omega (arith, l, s))
-framed_reason id reasons.InternalError h said = framed_refusal id _ _ h (code_fits reasons.InternalError) (literal_text (codes "sources unreadable") refl) (lit≤ tt)
+framed_reason id reasons.InternalError h said = framed_refusal id _ _ h (code_fits reasons.InternalError) (text_from_test (codes "sources unreadable") refl) (lit≤ tt)
 framed_reason id (reasons.WorkspaceRefused fault) h said =
     framed_refusal id _ _ h (code_fits (reasons.WorkspaceRefused fault))
-    (IsUtf8-append (codes "workspace refused: ") (kind_text fault.kind ++ name_behind fault.name) (literal_text (codes "workspace refused: ") refl)
-    (IsUtf8-append (kind_text fault.kind) (name_behind fault.name) (kind_plain fault.kind) (behind_plain fault.name said.plain)))
+    (IsUtf8-append (codes "workspace refused: ") (kind_text fault.kind ++ name_behind fault.name) (text_from_test (codes "workspace refused: ") refl)
+    (IsUtf8-append (kind_text fault.kind) (name_behind fault.name) (kind_plain fault.kind) (behind_plain fault.name said.ascii)))
     (let l = length-append (codes "workspace refused: ") (kind_text fault.kind ++ name_behind fault.name) in
     let m = length-append (kind_text fault.kind) (name_behind fault.name) in
     let k = kind_short fault.kind in

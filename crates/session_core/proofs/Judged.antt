@@ -6,8 +6,9 @@ use Rattle.std.proofs.lemmas.Fmt.{IsAscii-decimal, length-decimal-le}
 use Rattle.std.proofs.lemmas.List.{drop_more}
 use Rattle.std.proofs.lemmas.Str.{IsAscii-append}
 use Rattle.bsp_records.specs.declared.identifiers.BuildTargetIdentifier.{BuildTargetIdentifier}
-use Rattle.session_core.specs.Judging.{IsShort}
-use Rattle.session_core.proofs.Literals.{literal_ascii}
+use Rattle.ob_text.specs.Ascii.{IsPlain}
+use Rattle.ob_text.proofs.AsciiLaws.{ascii_from_test}
+use Rattle.session_core.specs.Judging.{said_limit}
 use Rattle.session_law.specs.Methods.{Found, all_found, unknown_at, found_first, found_from, target_path}
 use Rattle.target_graph.specs.Workspace.{Space, named}
 
@@ -51,14 +52,14 @@ module _ (space : Space) (ids : List BuildTargetIdentifier) where
   pub finds_all : (index : ℕ) (asked : List ℕ) → drop index ids ≡ [] → found_from space 0 ids ≡ after asked (found_from space index (drop index ids)) → found_from space 0 ids ≡ all_found asked
   finds_all index asked nothing found = found ∙ ap (λ rest. after asked (found_from space index rest)) nothing ∙ ap all_found (append-nil asked)
 
-pub short_path : (index : ℕ) → index < 2 ^ 64 → IsShort (target_path index)
+pub short_path : (index : ℕ) → index < 2 ^ 64 → IsPlain said_limit (target_path index)
 unfolding target_path
 short_path index h =
     let digits : length (decimal index) ≤ 20 = length-decimal-le 20 index (omega arith) (omega arith) h in
     let front = length-append (codes "targets[") (decimal index ++ codes "].uri") in
     let back = length-append (decimal index) (codes "].uri") in
     record {
-      plain = IsAscii-append (codes "targets[") (decimal index ++ codes "].uri") (literal_ascii (codes "targets[") refl)
-          (IsAscii-append (decimal index) (codes "].uri") (IsAscii-decimal index h) (literal_ascii (codes "].uri") refl));
+      ascii = IsAscii-append (codes "targets[") (decimal index ++ codes "].uri") (ascii_from_test (codes "targets[") refl)
+          (IsAscii-append (decimal index) (codes "].uri") (IsAscii-decimal index h) (ascii_from_test (codes "].uri") refl));
       short = omega (arith, digits, front, back);
     }

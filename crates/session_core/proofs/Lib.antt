@@ -1,6 +1,5 @@
 pub mod Framing
 pub mod Judged
-pub mod Literals
 pub mod Owing
 pub mod Publications
 pub mod Serving

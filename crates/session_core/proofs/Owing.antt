@@ -4,7 +4,7 @@ use Rattle.ob_text.specs.declared.held.Held.{Held}
 use Rattle.serde_json.specs.Data.{Data, null}
 use Rattle.serde_json.specs.View.{view}
 use Rattle.rpc_peer.specs.declared.message.Id.{Id}
-use Rattle.rpc_peer.specs.Said.{result, failure, IsId}
+use Rattle.rpc_peer.specs.Said.{result, failure}
 use Rattle.session_law.specs.IsFramed.{IsFramed}
 use Rattle.session_law.specs.Lawful.{Lawful, WriteAllowed}
 use Rattle.session_law.specs.Methods.{Verdict, asking, opening, queued, building, built, answering, closing, refusal, initialize_result}

@@ -10,7 +10,6 @@ use Rattle.rpc_peer.specs.Said.{Said, request, notification, result, failure}
 use Rattle.session_build.specs.Publishing.{IsNotice}
 use Rattle.session_law.specs.Builds.{Finding, CleanBuild, PublishesSome, Shows, build_answer, build_said, has_error, is_publication, shown_by, status_by, table_with}
 use Rattle.session_law.specs.IsFramed.{IsFramed}
-use Rattle.session_law.specs.Lawful.{Lawful}
 use Rattle.session_law.specs.Methods.{Build, built}
 use Rattle.session_law.specs.Order.{Entries, Event, write}
 use Rattle.session_law.specs.Past.{after}

@@ -1,5 +1,5 @@
 -- What the core does with a request is what the request is owed.
-use Rattle.std.proofs.Common.{◌≡◌, Option, Some, None, ap, subst, sym}
+use Rattle.std.proofs.Common.{◌≡◌, Option, ap, subst, sym}
 use Rattle.rpc_peer.specs.declared.message.Id.{Id}
 use Rattle.rpc_peer.specs.Said.{IsId}
 use Rattle.session_law.specs.Methods.{Verdict, asking, opening, queued, building, built, answering, closing, refusal, Call, due_in, taken_in}

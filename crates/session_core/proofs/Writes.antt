@@ -12,7 +12,7 @@ use Rattle.session_law.specs.Builds.{is_publication}
 use Rattle.session_law.specs.If.{If}
 use Rattle.session_law.specs.IsFramed.{IsFramed}
 use Rattle.session_law.specs.Lawful.{WriteAllowed}
-use Rattle.session_law.specs.Methods.{Build, Verdict, asking, opening, queued, building, built, answering, closing, refusal, Call, to_build, Found, all_found, unknown_at, found_build, found_from, taken_up, due_in, null_message}
+use Rattle.session_law.specs.Methods.{Build, Verdict, asking, opening, queued, building, built, answering, closing, refusal, Call, to_build, Found, all_found, unknown_at, found_build, found_from, taken_up, due_in}
 use Rattle.session_law.specs.Order.{Entries}
 use Rattle.session_law.specs.Past.{Now}
 use Rattle.session_law.specs.PublishesInBuildsOnly.{PublishesFor}

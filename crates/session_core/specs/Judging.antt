@@ -1,7 +1,7 @@
 -- What the core finds a request to be owed, in the words of the law.
 use Rattle.std.specs.Prelude.{◌≡◌, ◌≤◌, ◌++◌, ℕ, ℤ, List, length, codes, false, Option, Some, IsSome, Result, Ok, Err, Vec}
 use Rattle.std.specs.declared.alloc.Global.{Global}
-use Rattle.std.specs.Str.{IsAscii}
+use Rattle.ob_text.specs.Ascii.{IsPlain}
 use Rattle.rpc_peer.specs.Meaning.{invalid_request}
 use Rattle.rpc_peer.specs.Said.{Said, result, failure}
 use Rattle.rpc_peer.specs.declared.message.Id.{Id}
@@ -87,10 +87,6 @@ IsFoundAs found (Err index) = found ≡ unknown_at index
 abbrev pub said_limit : ℕ
 said_limit = 4096
 
-pub record IsShort (text : List ℕ) : Type 0 where
-  pub plain : IsAscii text
-  pub short : length text ≤ said_limit
-
 -- a result is printed in one way alone, and in a part of a frame
 pub record IsPrinted (value : Data) : Type 0 where
   pub exact : has_float value ≡ false
@@ -98,8 +94,8 @@ pub record IsPrinted (value : Data) : Type 0 where
 
 abbrev pub IsSaid : Answer → Type 0
 IsSaid (answers.Result value) = IsPrinted (view value)
-IsSaid (answers.Refused (reasons.InvalidParams path)) = IsShort path
-IsSaid (answers.Refused (reasons.WorkspaceRefused fault)) = IsShort fault.name
+IsSaid (answers.Refused (reasons.InvalidParams path)) = IsPlain said_limit path
+IsSaid (answers.Refused (reasons.WorkspaceRefused fault)) = IsPlain said_limit fault.name
 IsSaid answer = Unit {0}
 
 abbrev pub HasTexts : Queued → Type 0

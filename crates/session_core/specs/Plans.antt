@@ -4,7 +4,7 @@ use Rattle.std.specs.List.{All, AllPairs}
 use Rattle.std.specs.Option.{IfSome}
 use Rattle.bsp_records.specs.Shapes.{IsTextWithin}
 use Rattle.bsp_records.specs.declared.kinds.TheConstants.{ORIGIN_LIMIT}
-use Rattle.session_build.specs.Placed.{IsPlain, build_of}
+use Rattle.session_build.specs.Placed.{HasPlainAddress, build_of}
 use Rattle.session_core.specs.declared.planned.Planned.TheInside.{Inside}
 use Rattle.session_law.specs.Methods.{Build}
 use Rattle.session_law.specs.declared.Place.{Place}
@@ -21,7 +21,7 @@ plan_of planned = record { asked = planned.asked; origin = planned.origin; place
 
 -- its addresses and its `originId` are short, and no two documents have one address
 pub record IsSoundPlan (plan : Plan) : Type 0 where
-  pub plain : All IsPlain plan.places
+  pub plain : All HasPlainAddress plan.places
   pub distinct : AllPairs ◌≢◌ (map (λ place. place.address) plan.places)
   pub short : IfSome plan.origin (IsTextWithin ORIGIN_LIMIT)
 

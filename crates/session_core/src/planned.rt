@@ -2,7 +2,7 @@ use ob_text::{Items, Text};
 use session_law::Place;
 use std::marker::Model;
 
-/// A build before its documents are handed out: the targets asked for, by their places in the workspace file,
+/// A build before its documents are handed out: the targets asked for, by their index in the workspace file,
 /// the `originId` that was sent with it, and its documents.
 #[derive(Drop)]
 pub struct Planned {
@@ -27,10 +27,10 @@ impl Planned {
     ghost use Rattle.std.specs.Option.{IfSome};
     ghost use Rattle.bsp_records.specs.Shapes.{IsTextWithin};
     ghost use Rattle.bsp_records.specs.declared.kinds.TheConstants.{ORIGIN_LIMIT};
-    ghost use Rattle.session_build.specs.Placed.{IsPlain};
+    ghost use Rattle.session_build.specs.Placed.{HasPlainAddress};
 
     pub fn new(asked: Items<u32>, origin: Option<Text>, places: Items<Place>) -> Planned
-        requires plain { All IsPlain places }
+        requires plain { All HasPlainAddress places }
         requires distinct { AllPairs ◌≢◌ (map (λ place. place.address) places) }
         requires short { IfSome origin (IsTextWithin ORIGIN_LIMIT) }
         ensures { result ≡ record { asked = asked; origin = origin; places = places } }
@@ -45,7 +45,7 @@ impl Planned {
     /// Its documents, in order.
     pub fn places(&self) -> &[Place]
         ensures places { result.now ≡ self.now.places }
-        ensures plain { All IsPlain result.now }
+        ensures plain { All HasPlainAddress result.now }
         ensures distinct { AllPairs ◌≢◌ (map (λ place. place.address) result.now) }
     {
         self.places.as_slice()

@@ -32,19 +32,13 @@ impl Reason {
             Reason::ServerNotInitialized => Text::new(alloc, b"server not initialized"),
             Reason::InvalidRequest => Text::new(alloc, b"invalid request"),
             Reason::MethodNotFound => Text::new(alloc, b"method not found"),
-            Reason::InvalidParams(path) => joined(alloc, b"invalid params: ", path.as_slice()),
+            Reason::InvalidParams(path) => {
+                Text::new(alloc, b"invalid params: ")?.followed_by(path.as_slice())
+            }
             Reason::InternalError => Text::new(alloc, b"sources unreadable"),
             Reason::WorkspaceRefused(fault) => refused_message(alloc, fault),
         }
     }
-}
-
-fn joined(alloc: Global, front: &[u8], back: &[u8]) -> Result<Text, NoMemory>
-    ensures { IfOk result (λ text. text ≡ front.now ++ back.now) }
-{
-    let mut bytes = Vec::from_slice(alloc, front)?;
-    bytes.extend_from_slice(back)?;
-    Ok(Text::from_vec(bytes))
 }
 
 // The kind of the fault, and what it is about where it is about something.

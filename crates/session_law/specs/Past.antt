@@ -1,5 +1,5 @@
 -- What a session is at a place of its order: what it owes, has opened, shows and has ended with.
-use Rattle.std.specs.Prelude.{◌||◌, ℕ, ℤ, suc, List, [], ◌∷◌, ◌++◌, codes, Bool, true, false, Option, Some, None, Result, Ok, Err, drop, if◌then◌else◌}
+use Rattle.std.specs.Prelude.{◌||◌, ℕ, ℤ, suc, List, [], ◌∷◌, ◌++◌, codes, Bool, false, Option, Some, None, Result, Ok, Err, drop, if◌then◌else◌}
 use Rattle.bsp_records.specs.Table.{Table, nothing_shown}
 use Rattle.ob_text.specs.declared.held.Held.{Held}
 use Rattle.rpc_peer.specs.Meaning.{meaning, invalid_request, parse_error}
@@ -7,7 +7,7 @@ use Rattle.rpc_peer.specs.Said.{Said, request, notification, result, failure}
 use Rattle.target_graph.specs.Faults.{targets_in}
 use Rattle.target_graph.specs.Workspace.{Space}
 use Rattle.session_law.specs.Builds.{shown_by}
-use Rattle.session_law.specs.Methods.{Verdict, opening, closing, is_named}
+use Rattle.session_law.specs.Methods.{Verdict, opening, is_named}
 use Rattle.session_law.specs.Order.{Event, take, ends, hand, write}
 use Rattle.session_law.specs.Requests.{Asked, all_marked, closed_by, first_up, granted_by, handed_by, is_closing, is_open, opened_by}
 use Rattle.session_law.specs.declared.InputEnd.{InputEnd}

@@ -1,7 +1,7 @@
 -- RefusesExactly: what is accepted has its result, and what is refused its code and message.
 use Rattle.std.specs.Prelude.{◌≡◌, ℕ, ℤ, List, [], ◌∷◌, Option, Some, None}
 use Rattle.ob_text.specs.declared.held.Held.{Held}
-use Rattle.rpc_peer.specs.Said.{Said, request, notification, result, failure}
+use Rattle.rpc_peer.specs.Said.{Said, result, failure}
 use Rattle.serde_json.specs.Data.{Data, null}
 use Rattle.session_law.specs.Methods.{Verdict, opening, built, answering, closing, refusal, workspace_refused, refused_message, initialize_result, null_message}
 use Rattle.session_law.specs.Past.{Now, standing}

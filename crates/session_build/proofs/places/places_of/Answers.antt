@@ -6,7 +6,7 @@ use Rattle.std.proofs.lemmas.Option.{slice_get_read}
 use Rattle.indexmap.specs.IndexSet.{contains}
 use Rattle.session_law.specs.Builds.{is_among, place_of}
 use Rattle.session_law.specs.declared.Place.{Place}
-use Rattle.session_build.specs.Placed.{IsPlain}
+use Rattle.session_build.specs.Placed.{HasPlainAddress}
 use Rattle.session_build.proofs.Placing.{distinct_places, one_kept, one_left}
 use Rattle.target_graph.specs.Workspace.{pairs_of}
 use Rattle.target_graph.specs.declared.target.Pair.{Pair}
@@ -39,7 +39,7 @@ loop-pair-preserved c =
                 w.in_ok-push.ensures.items
                 ∙ (ap (λ (p : Place). places ++ p ∷ []) is
                 ∙ one_kept space closure pairs i pair places h e (sym among ∙ w.if-contains.true) c.loop-pair.invariant.are);
-            plain = subst (All IsPlain) (sym w.in_ok-push.ensures.items) (All-push IsPlain places place c.loop-pair.invariant.plain w.in_ok-place_at.ensures.plain);
+            plain = subst (All HasPlainAddress) (sym w.in_ok-push.ensures.items) (All-push HasPlainAddress places place c.loop-pair.invariant.plain w.in_ok-place_at.ensures.plain);
           })
       | else-contains w ↦
           rw w.places-is
