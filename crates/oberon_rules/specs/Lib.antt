@@ -1,0 +1,16 @@
+pub mod Scopes
+pub mod Names
+pub mod Operators
+pub mod Constants
+pub mod Expressions
+pub mod ExpressionRules
+pub mod TypeRules
+pub mod Declarations
+pub mod Statements
+pub mod Procedures
+pub mod Module
+pub mod Order
+pub mod Views
+pub mod Judged
+pub mod Documents
+pub mod Local
