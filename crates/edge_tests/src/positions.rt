@@ -1,7 +1,7 @@
 use ob_text::{Cursor, Position, Range, Span, position_of};
 
-/// A text, a place in it, and the line and the character of that place.
-const PLACES: [(&str, u32, u32, u32); 19] = [
+/// A text, an offset in it, and the line and the character there.
+const OFFSETS: [(&str, u32, u32, u32); 19] = [
     ("", 0, 0, 0),
     ("ab", 2, 0, 2),
     // The example of the Language Server Protocol 3.17, section Position.
@@ -26,13 +26,13 @@ const PLACES: [(&str, u32, u32, u32); 19] = [
 
 #[test]
 fn counts_lines_and_units(rt: HostRuntime) {
-    for (text, place, line, character) in PLACES {
-        assert!(rt; place as usize <= text.len());
-        let position = position_of(text.as_bytes(), place);
+    for (text, offset, line, character) in OFFSETS {
+        assert!(rt; offset as usize <= text.len());
+        let position = position_of(text.as_bytes(), offset);
         assert_eq!(rt;
             position,
             Position { line, character },
-            "{text:?} at {place}"
+            "{text:?} at {offset}"
         );
     }
 }

@@ -7,7 +7,7 @@ use Rattle.std.proofs.lemmas.List.FromFn.{length-range_with_len}
 use Rattle.ob_text.specs.declared.position.Position.{Position}
 use Rattle.ob_text.specs.Position.{count_between, ends_line, begins_unit, line_start, position_at}
 
--- one place more is one more at the end
+-- one offset more is one more at the end
 range_with_len_push : (a n : ℕ) → range_with_len a (suc n) ≡ range_with_len a n ++ (a + n) ∷ []
 range_with_len_push a zero = ap (λ x. x ∷ []) (omega arith)
 range_with_len_push a (suc n) =
@@ -37,7 +37,7 @@ line_start_le text (suc i) = go (ends_line text i) (line_start_le text i)
     go true h = omega arith
     go false h = omega arith
 
--- no number of a position is above its place
+-- no number of a position is above its offset
 pub line_le : (text : List ℕ) (i : ℕ) → (position_at text i).line ≤ i
 line_le text i = omega (arith, count_between_le (ends_line text) 0 i)
 

@@ -22,7 +22,7 @@ abbrev units : ℕ → List ℕ → ℕ
 units before [] = 0
 units before (byte ∷ bytes) = cond (unit_at before byte) 1 0 + units byte bytes
 
--- a count place by place is a count over the bytes
+-- a count byte by byte is a count over the bytes
 pub units_between : (text : List ℕ) (n start : ℕ) → start + n ≤ length text → count_by (begins_unit text) (range_with_len start n) ≡ units (get_or text (start - 1) 0) (take n (drop start text))
 units_between text zero start h = refl
 units_between text (suc n) start h =
@@ -80,9 +80,9 @@ units_text (c ∷ characters) before =
     units_character c before (length (flat_map encode_utf16 characters)) (encode_utf8_all characters) (units_text characters) (shape c)
     ∙ sym (length-append (encode_utf16 c) (flat_map encode_utf16 characters))
 
-pub character_is_utf16 : (text characters : List ℕ) (place : ℕ) → place ≤ length text → slice_range text (line_start text place) place ≡ encode_utf8_all characters → (position_at text place).character ≡ length (flat_map encode_utf16 characters)
-character_is_utf16 text characters place h e =
-    let start = line_start text place in
-    let low = line_start_le text place in
+pub character_is_utf16 : (text characters : List ℕ) (offset : ℕ) → offset ≤ length text → slice_range text (line_start text offset) offset ≡ encode_utf8_all characters → (position_at text offset).character ≡ length (flat_map encode_utf16 characters)
+character_is_utf16 text characters offset h e =
+    let start = line_start text offset in
+    let low = line_start_le text offset in
     let before = get_or text (start - 1) 0 in
-    units_between text (place - start) start (omega (arith, low)) ∙ (ap (units before) e ∙ units_text characters before)
+    units_between text (offset - start) start (omega (arith, low)) ∙ (ap (units before) e ∙ units_text characters before)

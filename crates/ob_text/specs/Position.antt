@@ -5,7 +5,7 @@ use Rattle.ob_text.specs.declared.position.Position.{Position}
 use Rattle.ob_text.specs.declared.position.Range.{Range}
 use Rattle.ob_text.specs.declared.span.Span.{Span}
 
--- how many of the places from `low` up to, and without, `high` pass the test
+-- how many of the offsets from `low` up to, and without, `high` pass the test
 abbrev pub count_between : (ℕ → Bool) → ℕ → ℕ → ℕ
 count_between test low high = count_by test (range_with_len low (high - low))
 
@@ -13,7 +13,7 @@ count_between test low high = count_by test (range_with_len low (high - low))
 abbrev pub ends_line : List ℕ → ℕ → Bool
 ends_line text i = (slice_index text i == 10) || ((slice_index text i == 13) && not (slice_index text (i + 1) == 10))
 
--- where the line of a place begins: behind the last line end that ends at or before the place, or at 0
+-- where the line of an offset begins: behind the last line end that ends at or before the offset, or at 0
 abbrev pub line_start : List ℕ → ℕ → ℕ
 line_start text zero = 0
 line_start text (suc i) = if ends_line text i then suc i else line_start text i
@@ -27,10 +27,10 @@ is_continuation byte = nat_le 128 byte && nat_lt byte 192
 abbrev pub begins_unit : List ℕ → ℕ → Bool
 begins_unit text i = not (is_continuation (slice_index text i)) || nat_le 240 (slice_index text (i - 1))
 
--- the line is the number of line ends that end at or before the place, the character the number of units
--- of UTF-16 from the beginning of that line up to the place
+-- the line is the number of line ends that end at or before the offset, the character the number of units
+-- of UTF-16 from the beginning of that line up to the offset
 abbrev pub position_at : List ℕ → ℕ → Position
-position_at text place = record { line = count_between (ends_line text) 0 place; character = count_between (begins_unit text) (line_start text place) place }
+position_at text offset = record { line = count_between (ends_line text) 0 offset; character = count_between (begins_unit text) (line_start text offset) offset }
 
 abbrev pub range_at : List ℕ → Span → Range
 range_at text span = record { start = position_at text span.start; end = position_at text span.end }

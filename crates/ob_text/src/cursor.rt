@@ -8,12 +8,12 @@ use crate::position::{Position, Range};
 use crate::span::Span;
 use std::marker::Model;
 
-/// A place in a text that moves forward, with its position. It finds the positions of places that come in
+/// An offset in a text that moves forward, with its position. It finds the positions of offsets that come in
 /// order in one sweep of the text.
 #[derive(Drop)]
 pub struct Cursor<'a> {
     text: &'a [u8],
-    place: u32,
+    offset: u32,
     position: Position,
 }
 
@@ -31,11 +31,11 @@ impl<'a> Cursor<'a> {
     /// Stands at the beginning of the text.
     pub fn new(text: &'a [u8]) -> Cursor<'a>
         ensures text { result.text ≡ text.now }
-        ensures place { result.place ≡ 0 }
+        ensures offset { result.offset ≡ 0 }
     {
         Cursor {
             text,
-            place: 0,
+            offset: 0,
             position: Position {
                 line: 0,
                 character: 0,
@@ -43,15 +43,15 @@ impl<'a> Cursor<'a> {
         }
     }
 
-    /// Goes forward to a place, and gives its position.
-    pub fn move_to(&mut self, place: u32) -> Position
-        requires forward { self.old.place ≤ place }
-        requires within { place ≤ length self.old.text }
-        ensures position { result ≡ position_at self.old.text place }
+    /// Goes forward to an offset, and gives its position.
+    pub fn move_to(&mut self, offset: u32) -> Position
+        requires forward { self.old.offset ≤ offset }
+        requires within { offset ≤ length self.old.text }
+        ensures position { result ≡ position_at self.old.text offset }
         ensures text { self.new.text ≡ self.old.text }
-        ensures place { self.new.place ≡ place }
+        ensures offset { self.new.offset ≡ offset }
     {
-        while self.place < place {
+        while self.offset < offset {
             self.step();
         }
         self.position
@@ -59,16 +59,16 @@ impl<'a> Cursor<'a> {
 
     /// Goes forward to the start of a part, and gives the part's range.
     pub fn range_of(&mut self, span: Span) -> Range
-        requires forward { self.old.place ≤ span.start }
+        requires forward { self.old.offset ≤ span.start }
         requires part { IsPart self.old.text span }
         ensures range { result ≡ range_at self.old.text span }
         ensures text { self.new.text ≡ self.old.text }
-        ensures place { self.new.place ≡ span.start }
+        ensures offset { self.new.offset ≡ span.start }
     {
         let start = self.move_to(span.start);
         let mut ahead = Cursor {
             text: self.text,
-            place: self.place,
+            offset: self.offset,
             position: self.position,
         };
         let end = ahead.move_to(span.end);
@@ -77,14 +77,14 @@ impl<'a> Cursor<'a> {
 
     /// Goes one byte forward.
     fn step(&mut self)
-        requires room { self.old.place < length self.old.text }
-        requires counted { self.old.place + 1 < 2 ^ 32 }
+        requires room { self.old.offset < length self.old.text }
+        requires counted { self.old.offset + 1 < 2 ^ 32 }
         ensures text { self.new.text ≡ self.old.text }
-        ensures place { self.new.place ≡ self.old.place + 1 }
+        ensures offset { self.new.offset ≡ self.old.offset + 1 }
     {
-        let at = self.place as usize;
+        let at = self.offset as usize;
         self.position = behind(self.position, self.text, at);
-        self.place += 1;
+        self.offset += 1;
     }
 }
 
@@ -133,14 +133,14 @@ fn begins_unit(text: &[u8], at: usize) -> bool
     }
 }
 
-/// The position of a place in a text (Language Server Protocol 3.17, section Position). Takes no memory.
-pub fn position_of(text: &[u8], place: u32) -> Position
-    requires { place ≤ length text.now }
-    ensures position { result ≡ position_at text.now place }
+/// The position of an offset in a text (Language Server Protocol 3.17, section Position). Takes no memory.
+pub fn position_of(text: &[u8], offset: u32) -> Position
+    requires { offset ≤ length text.now }
+    ensures position { result ≡ position_at text.now offset }
     // The units counted are those of UTF-16.
     ensures utf16 { (characters : List ℕ) → all_scalars characters ≡ true
-        → slice_range text.now (line_start text.now place) place ≡ encode_utf8_all characters
+        → slice_range text.now (line_start text.now offset) offset ≡ encode_utf8_all characters
         → result.character ≡ length (flat_map encode_utf16 characters) }
 {
-    Cursor::new(text).move_to(place)
+    Cursor::new(text).move_to(offset)
 }

@@ -1,4 +1,4 @@
--- Each token is a part of its text, and so is the place where a bad one is shown.
+-- Each token is a part of its text, and so is the part where a bad one is shown.
 use Rattle.std.proofs.Common.{◌≡◌, ◌≤◌, ◌-◌, ℕ, zero, suc, List, [], ◌∷◌, length, drop, Option, Some, None, refl, subst, arith, length-drop}
 use Rattle.std.specs.Prelude.{nat_eq, slice_get}
 use Rattle.std.specs.List.{starts_with}

@@ -22,7 +22,7 @@ pub record Swept (text rest : List ℕ) (ts : List Token) (ds : List Diagnostic)
   pub utf8 : IsUtf8 rest
   pub within : length rest ≤ length text
   pub text_is : cursor.text ≡ text
-  pub place_is : cursor.place ≤ offset_of text rest
+  pub offset_is : cursor.offset ≤ offset_of text rest
 
 abbrev CutsSo : List ℕ → List Token → List Diagnostic → Type 0
 CutsSo text ts ds = Cuts text (without_mark text) ts ds
@@ -50,15 +50,15 @@ piece_shown text rest after (pieces.Token kind) h p = tt
 piece_shown text rest after (pieces.Fault code n) h p = omega (arith, fails_shown p)
 
 pub sweeps_on : (text rest after : List ℕ) (piece : Piece) (ts us : List Token) (ds es : List Diagnostic) (c d : Reached) → Swept text rest ts ds c → CutsOff rest piece after → Adds text piece (part text rest after) ts ds us es
-    → d.text ≡ c.text → d.place ≤ offset_of text rest → Swept text after us es d
-sweeps_on text rest after piece ts us ds es c d s p a same place =
+    → d.text ≡ c.text → d.offset ≤ offset_of text rest → Swept text after us es d
+sweeps_on text rest after piece ts us ds es c d s p a same offset =
     let g = piece_goes rest after piece p in
     record {
       cuts = add_cuts text rest after piece ts us ds es p a s.cuts;
       utf8 = g.utf8 s.utf8;
       within = omega (arith, g.shorter, s.within);
       text_is = same ∙ s.text_is;
-      place_is = omega (arith, g.shorter, s.within, place);
+      offset_is = omega (arith, g.shorter, s.within, offset);
     }
 
 -- what follows a mark at offset 0
@@ -80,7 +80,7 @@ mark_left text u =
     (λ e. record { utf8 = after_mark text e u; within = rw length-drop (omega arith) })
     (λ e. record { utf8 = u; within = omega arith })
 
-pub begins_swept : (text rest : List ℕ) (ts : List Token) (ds : List Diagnostic) (c : Reached) → rest ≡ without_mark text → ts ≡ [] → ds ≡ [] → c.text ≡ text → c.place ≡ 0 → IsUtf8 text → Swept text rest ts ds c
+pub begins_swept : (text rest : List ℕ) (ts : List Token) (ds : List Diagnostic) (c : Reached) → rest ≡ without_mark text → ts ≡ [] → ds ≡ [] → c.text ≡ text → c.offset ≡ 0 → IsUtf8 text → Swept text rest ts ds c
 begins_swept text rest ts ds c e no_tokens no_faults same start u =
     let left = subst (Left text) (sym e) (mark_left text u) in
     record {
@@ -89,7 +89,7 @@ begins_swept text rest ts ds c e no_tokens no_faults same start u =
       utf8 = left.utf8;
       within = left.within;
       text_is = same;
-      place_is = omega (arith, start);
+      offset_is = omega (arith, start);
     }
 
 -- where nothing is left, the text is cut as was found

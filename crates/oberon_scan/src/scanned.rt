@@ -48,13 +48,13 @@ pub fn scan(alloc: Global, text: &[u8]) -> Result<Scanned, NoMemory>
 impl Scanned {
     /// Adds what stands at a part of the text.
     fn add(&mut self, cursor: &mut Cursor<'_>, piece: Piece, span: Span) -> Result<(), NoMemory>
-        requires forward { cursor.old.place ≤ span.start }
+        requires forward { cursor.old.offset ≤ span.start }
         requires shown { IsWithinText cursor.old.text piece span }
         requires room { length cursor.old.text < too_many_bytes }
         ensures adds { OnOk result (Adds cursor.old.text piece span self.old.tokens.items self.old.faults.items
             self.new.tokens.items self.new.faults.items) }
         ensures text { cursor.new.text ≡ cursor.old.text }
-        ensures place { cursor.new.place ≤ span.start }
+        ensures offset { cursor.new.offset ≤ span.start }
     {
         match piece {
             Piece::Gap => Ok(()),
@@ -69,12 +69,12 @@ impl Scanned {
 
 /// The diagnostic of a fault that is shown at some bytes from `start` on.
 fn fault_at(cursor: &mut Cursor<'_>, start: u32, shown: usize, code: Code) -> Diagnostic
-    requires forward { cursor.old.place ≤ start }
+    requires forward { cursor.old.offset ≤ start }
     requires shown { start + shown ≤ length cursor.old.text }
     requires room { length cursor.old.text < too_many_bytes }
     ensures fault { result ≡ fault_of cursor.old.text start code shown }
     ensures text { cursor.new.text ≡ cursor.old.text }
-    ensures place { cursor.new.place ≡ start }
+    ensures offset { cursor.new.offset ≡ start }
 {
     let span = Span {
         start,

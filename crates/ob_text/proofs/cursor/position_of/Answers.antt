@@ -5,4 +5,4 @@ use Rattle.ob_text.proofs.cursor.position_of.Goals as goal
 
 pub returns-clause-utf16 : goal.returns-clause-utf16
 returns-clause-utf16 c characters _ e =
-    ap (λ p. p.character) (c.move_to.ensures.position ∙ ap (λ text. position_at text c.args.place) c.new.ensures.text) ∙ character_is_utf16 c.args.text.now characters c.args.place c.requires e
+    ap (λ p. p.character) (c.move_to.ensures.position ∙ ap (λ text. position_at text c.args.offset) c.new.ensures.text) ∙ character_is_utf16 c.args.text.now characters c.args.offset c.requires e

@@ -11,7 +11,7 @@ use Rattle.oberon_scan.proofs.scanned.scan.Goals as goal
 pub pieces-init : goal.pieces-init
 pieces-init c =
     begins_swept c.args.text.now c.without_mark-rest.result.now c.new.result.items c.new-2.result.items c.new-cursor.result
-    c.without_mark-rest.ensures c.new.ensures.items c.new-2.ensures.items c.new-cursor.ensures.text c.new-cursor.ensures.place c.requires.utf8
+    c.without_mark-rest.ensures c.new.ensures.items c.new-2.ensures.items c.new-cursor.ensures.text c.new-cursor.ensures.offset c.requires.utf8
 
 pub overflow_sub-span-in-pieces : goal.overflow_sub-span-in-pieces
 overflow_sub-span-in-pieces c =
@@ -39,7 +39,7 @@ pieces-preserved c =
     let new = c.add.new.self in
     let added = subst (λ xs. Adds xs piece (part text rest after) old.tokens.items old.faults.items new.tokens.items new.faults.items) c.pieces.invariant.text_is (c.in_ok-add.ensures {u = tt}).adds in
     sweeps_on text rest after piece old.tokens.items new.tokens.items old.faults.items new.faults.items c.pieces.cursor c.add.new.cursor
-    c.pieces.invariant (c.in_ok-piece.ensures {u = tt}) added (c.in_ok-add.ensures {u = tt}).text (c.in_ok-add.ensures {u = tt}).place
+    c.pieces.invariant (c.in_ok-piece.ensures {u = tt}) added (c.in_ok-add.ensures {u = tt}).text (c.in_ok-add.ensures {u = tt}).offset
 
 pub returns-clause-lex : goal.returns-clause-lex
 returns-clause-lex c =
