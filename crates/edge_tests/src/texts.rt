@@ -1,4 +1,4 @@
-use ob_text::{Code, Held, Items, Name, OrNoMemory, Path, Severity, Snapshot, Text};
+use ob_text::{Code, Held, Items, Name, Path, Severity, Snapshot, Text};
 use std::collections::HashSet;
 use std::test::Fail;
 
@@ -73,21 +73,4 @@ fn prints_codes(rt: HostRuntime) {
     assert_eq!(rt; Severity::Error as u8, 1);
     assert_eq!(rt; Code::DocumentAbsent as u8, 1);
     assert_eq!(rt; Code::BadControl as u8, 38);
-}
-
-/// The first byte, or why there is none.
-fn first(rt: HostRuntime, bytes: &[u8]) -> Result<Vec<u8>, OrNoMemory<&'static str>> {
-    match bytes.first() {
-        Some(byte) => Ok(vec![in rt.alloc(); *byte; 1]?),
-        None => Err(OrNoMemory::For("empty")),
-    }
-}
-
-#[test]
-fn tells_want_of_memory_apart(rt: HostRuntime) {
-    assert!(rt; first(rt, b"ab").is_ok());
-    match first(rt, b"") {
-        Err(cause) => assert!(rt; cause == OrNoMemory::For("empty")),
-        Ok(_) => panic!(rt; "a byte"),
-    }
 }

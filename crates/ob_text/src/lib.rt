@@ -23,6 +23,6 @@ pub use cursor::{Cursor, position_of};
 pub use diagnostic::Diagnostic;
 pub use held::{Held, Snapshot, TEXT_LIMIT};
 pub use items::Items;
-pub use no_memory::{NoMemory, OrNoMemory};
+pub use no_memory::NoMemory;
 pub use position::{Position, Range};
 pub use span::Span;
