@@ -1,7 +1,8 @@
 -- What a list of events tells that is joined of two.
 use Rattle.std.proofs.Common.{◌≡◌, ◌+◌, ◌++◌, ℕ, List, [], ◌∷◌, flat_map, Option, Some, None, refl, sym, ap, ◌∙◌, subst, arith, append_assoc, append-nil}
 use Rattle.std.proofs.lemmas.Grind.{flat_map-append}
-use Rattle.bsp_edge.specs.Handing.{Entries, Hands}
+use Rattle.ob_text.specs.Held.{Entries}
+use Rattle.bsp_edge.specs.Handing.{Hands}
 use Rattle.bsp_edge.specs.Streams.{Gives}
 use Rattle.bsp_edge.specs.Faults.{Rose}
 use Rattle.bsp_edge.proofs.HandLaws.{hands_append, hands_nothing}

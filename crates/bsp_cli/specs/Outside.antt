@@ -1,6 +1,7 @@
 -- What the tree and the output tell, and how that changes by the events of a session.
 use Rattle.std.specs.Prelude.{◌++◌, ℕ, List, flat_map, Option}
-use Rattle.bsp_edge.specs.Handing.{Entries, Hands}
+use Rattle.ob_text.specs.Held.{Entries}
+use Rattle.bsp_edge.specs.Handing.{Hands}
 use Rattle.bsp_edge.specs.Streams.{Gives}
 use Rattle.session_law.specs.IsFramed.{text_of}
 use Rattle.session_law.specs.Order.{Event, writes_of, hands_of, failures_of}

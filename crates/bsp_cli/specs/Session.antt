@@ -4,7 +4,8 @@
 use Rattle.std.specs.Prelude.{◌≡◌, ◌≢◌, ◌⊎◌, ◌+◌, ◌-◌, ◌^◌, ◌++◌, ◌≤◌, ◌<◌, ℕ, List, [], length, take, flat_map, Option, Some, None}
 use Rattle.bsp_edge.specs.Course.{Course}
 use Rattle.bsp_edge.specs.Faults.{Rose}
-use Rattle.bsp_edge.specs.Handing.{Entries, Hands}
+use Rattle.ob_text.specs.Held.{Entries}
+use Rattle.bsp_edge.specs.Handing.{Hands}
 use Rattle.bsp_edge.specs.Streams.{Takes, Gives, IsDry}
 use Rattle.rpc_frame.specs.Frames.{Frames, IsBroken, IsSound}
 use Rattle.rpc_frame.specs.Limits.{stream_limit}

@@ -1,7 +1,8 @@
 -- How what a tree hands out joins.
 use Rattle.std.proofs.Common.{[], ◌++◌, List, Option, Some, None, refl, append_assoc, sym, ap}
 use Rattle.std.proofs.lemmas.List.{append-nil}
-use Rattle.bsp_edge.specs.Handing.{Entries, Hands}
+use Rattle.ob_text.specs.Held.{Entries}
+use Rattle.bsp_edge.specs.Handing.{Hands}
 
 -- snapshots handed out in two rows are handed out in one
 pub hands_append : (a b c : Option (List Entries)) (xs ys : List Entries) → Hands a b xs → Hands b c ys → Hands a c (xs ++ ys)

@@ -2,7 +2,6 @@
 use Rattle.ob_text.specs.declared.held.Held.{Held}
 use Rattle.ob_text.specs.declared.held.Held.TheVariants.{Text, Absent, TooLarge, NotText}
 use Rattle.ob_text.specs.Held.{held_of}
-pub use Rattle.ob_text.specs.Held.{IsDocument, IsReadable}
 
 abbrev pub as_handed : Held → Held
 as_handed (Text text) = held_of text

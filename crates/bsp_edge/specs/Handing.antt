@@ -2,7 +2,7 @@
 use Rattle.std.specs.Prelude.{◌≡◌, ℕ, List, [], ◌∷◌, ◌++◌, map, Option, Result, Ok, Err}
 use Rattle.std.specs.Option.{option_map}
 use Rattle.ob_text.specs.declared.held.Snapshot.{Snapshot}
-pub use Rattle.ob_text.specs.Held.{Entries}
+use Rattle.ob_text.specs.Held.{Entries}
 use Rattle.bsp_edge.specs.declared.handing.TreeFault.{TreeFault}
 use Rattle.bsp_edge.specs.declared.handing.TreeFault.TheVariants.{Failed, NoMemory}
 use Rattle.bsp_edge.specs.Faults.{Rose}

@@ -1,4 +1,3 @@
-pub mod ListLaws
 pub mod ShownLaws
 pub mod ExactLaws
 pub mod ParamsLaws

@@ -24,7 +24,8 @@ use Rattle.serde_json.specs.View.{items_of}
 use Rattle.serde_json.specs.Written.{compact_text, items_text, members_text, comma_if}
 use Rattle.bsp_records.specs.Diagnostics.{position_data, range_data, severity_data, diagnostic_data, publish_diagnostics_params_data}
 use Rattle.bsp_records.specs.Identifiers.{identifier_data}
-use Rattle.bsp_records.specs.Short.{IsWithin, IsShortAddress, IsShortPosition, IsShortRecord, IsShortPublication, publication_limit}
+use Rattle.ob_text.specs.Ascii.{IsWithin}
+use Rattle.bsp_records.specs.Short.{IsShortAddress, IsShortPosition, IsShortRecord, IsShortPublication, publication_limit}
 use Rattle.bsp_records.specs.Shown.{shown, shown_message}
 use Rattle.bsp_records.specs.Writing.{with_member, with_members, object_with, array_with}
 use Rattle.bsp_records.specs.declared.diagnostics.DiagnosticRecord.{DiagnosticRecord}

@@ -8,7 +8,8 @@ use Rattle.ob_text.specs.declared.position.Position.{Position}
 use Rattle.ob_text.specs.declared.position.Range.{Range}
 use Rattle.serde_json.specs.Data.{Data, unsigned, boolean, number, string}
 use Rattle.json_shape.specs.Shapes.{Shape, text, count, whole, flag, label, list_of, object_of, required, optional, no_more, at, text_in, label_in, whole_in, flag_in, values_in}
-use Rattle.bsp_records.specs.Reading.{Is, Bad, if_there}
+use Rattle.json_shape.specs.Reading.{if_there}
+use Rattle.bsp_records.specs.Reading.{Is, Bad}
 use Rattle.bsp_records.specs.Writing.{object_with, array_with}
 use Rattle.bsp_records.specs.Identifiers.{identifier, target_in, document_in, identifier_data}
 use Rattle.bsp_records.specs.declared.diagnostics.DiagnosticRecord.{DiagnosticRecord}
@@ -51,11 +52,11 @@ position_in d = record { line = whole_in (at (codes "line") d); character = whol
 abbrev pub range_in : Data → Range
 range_in d = record { start = position_in (at (codes "start") d); end = position_in (at (codes "end") d) }
 
-abbrev pub severity_of : ℕ → DiagnosticSeverity
-severity_of n = if n == 1 then Error else (if n == 2 then Warning else (if n == 3 then Information else Hint))
+abbrev pub severity_numbered : ℕ → DiagnosticSeverity
+severity_numbered n = if n == 1 then Error else (if n == 2 then Warning else (if n == 3 then Information else Hint))
 
 abbrev pub severity_in : Data → DiagnosticSeverity
-severity_in d = severity_of (whole_in d)
+severity_in d = severity_numbered (whole_in d)
 
 abbrev pub diagnostic_in : Data → DiagnosticRecord
 diagnostic_in d = record {
@@ -83,11 +84,11 @@ BadPublishDiagnosticsParams = Bad publish_diagnostics_params
 
 -- ---- what is written
 
-abbrev pub number_of : DiagnosticSeverity → ℕ
-number_of Error = 1
-number_of Warning = 2
-number_of Information = 3
-number_of Hint = 4
+abbrev pub severity_number : DiagnosticSeverity → ℕ
+severity_number Error = 1
+severity_number Warning = 2
+severity_number Information = 3
+severity_number Hint = 4
 
 abbrev pub position_data : Position → Data
 position_data p =
@@ -99,7 +100,7 @@ range_data r =
     object_with ((codes "start", Some (position_data r.start)) ∷ (codes "end", Some (position_data r.end)) ∷ [])
 
 abbrev pub severity_data : DiagnosticSeverity → Data
-severity_data s = number (unsigned (number_of s))
+severity_data s = number (unsigned (severity_number s))
 
 abbrev pub diagnostic_data : DiagnosticRecord → Data
 diagnostic_data r =

@@ -1,6 +1,5 @@
 pub mod Limits
 pub mod Reading
-pub mod Shapes
 pub mod Short
 pub mod Writing
 pub mod Identifiers

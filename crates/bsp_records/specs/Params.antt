@@ -5,10 +5,11 @@ use Rattle.std.specs.Option.{IfSome}
 use Rattle.std.specs.Str.{IsUtf8}
 use Rattle.serde_json.specs.Data.{Data}
 use Rattle.json_shape.specs.Shapes.{Shape, text, text_within, list_of, object_of, required, optional, no_more, at, text_in, values_in, IsTextWithin}
-use Rattle.bsp_records.specs.Reading.{Is, Bad, if_there}
+use Rattle.json_shape.specs.Reading.{if_there}
+use Rattle.bsp_records.specs.Reading.{Is, Bad}
 use Rattle.bsp_records.specs.Identifiers.{identifier, target_in, document_in}
 use Rattle.bsp_records.specs.declared.identifiers.BuildTargetIdentifier.{BuildTargetIdentifier}
-use Rattle.bsp_records.specs.Limits.{origin_limit, root_limit}
+use Rattle.bsp_records.specs.Limits.{origin_limit, root_uri_limit}
 use Rattle.bsp_records.specs.declared.params.BuildClientCapabilities.{BuildClientCapabilities}
 use Rattle.bsp_records.specs.declared.params.InitializeParams.{InitializeParams}
 use Rattle.bsp_records.specs.declared.params.SourcesParams.{SourcesParams}
@@ -28,7 +29,7 @@ initialize_params =
     object_of (required (codes "displayName") text
     (required (codes "version") text
     (required (codes "bspVersion") text
-    (required (codes "rootUri") (text_within root_limit)
+    (required (codes "rootUri") (text_within root_uri_limit)
     (required (codes "capabilities") client_capabilities no_more)))))
 
 abbrev pub client_capabilities_in : Data → BuildClientCapabilities
@@ -139,7 +140,7 @@ pub record HasInitializeTexts (p : InitializeParams) : Type 0 where
   pub display_name : IsUtf8 p.display_name
   pub version : IsUtf8 p.version
   pub bsp_version : IsUtf8 p.bsp_version
-  pub root_uri : IsTextWithin root_limit p.root_uri
+  pub root_uri : IsTextWithin root_uri_limit p.root_uri
   pub language_ids : All IsUtf8 p.capabilities.language_ids
 
 pub record HasCompileTexts (p : CompileParams) : Type 0 where

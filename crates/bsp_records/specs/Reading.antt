@@ -4,7 +4,6 @@ use Rattle.ob_text.specs.Ascii.{IsPlain}
 use Rattle.serde_json.specs.Data.{Data}
 use Rattle.json_shape.specs.Shapes.{Shape, bad_named}
 use Rattle.bsp_records.specs.Limits.{path_limit}
-pub use Rattle.json_shape.specs.Reading.{IfBad, ReadBy, Reads, if_there}
 
 -- the path of the first bad field of params; params that are no object are bad at `params`
 abbrev pub bad_params : Shape → Data → Option (List ℕ)

@@ -17,13 +17,13 @@ use Rattle.bsp_records.specs.declared.requests.Request.TheVariants as requests
 
 -- ---- methods
 
-abbrev pub name_of : Method → List ℕ
-name_of methods.Initialize = codes "build/initialize"
-name_of methods.Shutdown = codes "build/shutdown"
-name_of methods.BuildTargets = codes "workspace/buildTargets"
-name_of methods.Sources = codes "buildTarget/sources"
-name_of methods.InverseSources = codes "buildTarget/inverseSources"
-name_of methods.Compile = codes "buildTarget/compile"
+abbrev pub method_name : Method → List ℕ
+method_name methods.Initialize = codes "build/initialize"
+method_name methods.Shutdown = codes "build/shutdown"
+method_name methods.BuildTargets = codes "workspace/buildTargets"
+method_name methods.Sources = codes "buildTarget/sources"
+method_name methods.InverseSources = codes "buildTarget/inverseSources"
+method_name methods.Compile = codes "buildTarget/compile"
 
 abbrev pub answered_methods : List Method
 answered_methods =
@@ -32,7 +32,7 @@ answered_methods =
 
 -- the method that has this name, if any
 unfoldable pub method_named : List ℕ → Option Method
-method_named name = find (λ method. pointwise ◌==◌ (name_of method) name) answered_methods
+method_named name = find (λ method. pointwise ◌==◌ (method_name method) name) answered_methods
 
 -- ---- what a request asks
 
@@ -42,18 +42,18 @@ asked_unless (Some path) request = Err path
 
 -- Params of this shape make a request, and others are bad at the path of their first bad field. Where there
 -- are none, they are bad as null is.
-abbrev pub asked_by : Shape → (Data → Request) → Option Data → Result Request (List ℕ)
-asked_by shape of params = asked_unless (bad_params shape (unwrap_or params null)) (of (unwrap_or params null))
+abbrev pub asked_with : Shape → (Data → Request) → Option Data → Result Request (List ℕ)
+asked_with shape of params = asked_unless (bad_params shape (unwrap_or params null)) (of (unwrap_or params null))
 
 -- the request of a method with these params, or the path of their first bad field; params that a method
 -- doesn't take aren't looked at
 abbrev pub request_in : Method → Option Data → Result Request (List ℕ)
-request_in methods.Initialize params = asked_by initialize_params (λ d. requests.Initialize (initialize_params_in d)) params
+request_in methods.Initialize params = asked_with initialize_params (λ d. requests.Initialize (initialize_params_in d)) params
 request_in methods.Shutdown params = Ok requests.Shutdown
 request_in methods.BuildTargets params = Ok requests.BuildTargets
-request_in methods.Sources params = asked_by targets_params (λ d. requests.Sources (sources_params_in d)) params
-request_in methods.InverseSources params = asked_by inverse_sources_params (λ d. requests.InverseSources (inverse_sources_params_in d)) params
-request_in methods.Compile params = asked_by build_params (λ d. requests.Compile (compile_params_in d)) params
+request_in methods.Sources params = asked_with targets_params (λ d. requests.Sources (sources_params_in d)) params
+request_in methods.InverseSources params = asked_with inverse_sources_params (λ d. requests.InverseSources (inverse_sources_params_in d)) params
+request_in methods.Compile params = asked_with build_params (λ d. requests.Compile (compile_params_in d)) params
 
 -- What was read is the request that was asked, and a refusal has the path. Want of memory says nothing.
 abbrev pub ReadsAs : Result Request (List ℕ) → Result Request BadValue → Type 0

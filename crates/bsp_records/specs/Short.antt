@@ -5,7 +5,7 @@ use Rattle.std.specs.List.{All}
 use Rattle.std.specs.Option.{IfSome}
 use Rattle.ob_text.specs.declared.position.Position.{Position}
 use Rattle.bsp_records.specs.declared.diagnostics.DiagnosticRecord.{DiagnosticRecord}
-pub use Rattle.ob_text.specs.Ascii.{IsWithin}
+use Rattle.ob_text.specs.Ascii.{IsWithin}
 use Rattle.bsp_records.specs.Limits.{origin_limit}
 use Rattle.bsp_records.specs.declared.publishing.PublishDiagnosticsParams.{PublishDiagnosticsParams}
 
@@ -22,11 +22,11 @@ pub record IsShortRecord (r : DiagnosticRecord) : Type 0 where
   pub message : IsWithin 200 r.message
 
 -- the most bytes of a short address of a document or a target
-abbrev pub address_limit : ℕ
-address_limit = 4400
+abbrev pub short_address_limit : ℕ
+short_address_limit = 4400
 
 abbrev pub IsShortAddress : List ℕ → Type 0
-IsShortAddress = IsWithin address_limit
+IsShortAddress = IsWithin short_address_limit
 
 -- the most diagnostics of one publication
 abbrev pub diagnostics_limit : ℕ

@@ -1,9 +1,9 @@
 -- Answers that are short and have only printing characters, as those about a workspace are: their
 -- results print in a frame.
 use Rattle.std.specs.Prelude.{◌≤◌, ℕ, List, length, flat_map}
-pub use Rattle.ob_text.specs.Ascii.{IsGraphic, IsGraphicWithin}
+use Rattle.ob_text.specs.Ascii.{IsGraphicWithin}
 use Rattle.std.specs.List.{All}
-use Rattle.bsp_records.specs.Short.{address_limit}
+use Rattle.bsp_records.specs.Short.{short_address_limit}
 use Rattle.bsp_records.specs.declared.identifiers.BuildTargetIdentifier.{BuildTargetIdentifier}
 use Rattle.bsp_records.specs.declared.results.BuildTarget.{BuildTarget}
 use Rattle.bsp_records.specs.declared.results.BuildTargetsResult.{BuildTargetsResult}
@@ -14,7 +14,7 @@ use Rattle.bsp_records.specs.declared.results.SourcesResult.{SourcesResult}
 
 -- a short address of a document or a target
 abbrev pub IsShortId : List ℕ → Type 0
-IsShortId = IsGraphicWithin address_limit
+IsShortId = IsGraphicWithin short_address_limit
 
 abbrev pub IsShortIdentifier : BuildTargetIdentifier → Type 0
 IsShortIdentifier target = IsShortId target.uri
@@ -22,8 +22,8 @@ IsShortIdentifier target = IsShortId target.uri
 -- ---- targets
 
 -- the most targets of an answer
-abbrev pub targets_limit : ℕ
-targets_limit = 256
+abbrev pub answered_targets_limit : ℕ
+answered_targets_limit = 256
 
 -- the most dependencies over all targets of an answer, or documents
 abbrev pub entries_limit : ℕ
@@ -39,7 +39,7 @@ pub record IsShortTarget (t : BuildTarget) : Type 0 where
   pub dependencies : All IsShortIdentifier t.dependencies
 
 pub record IsShortTargets (r : BuildTargetsResult) : Type 0 where
-  pub count : length r.targets ≤ targets_limit
+  pub count : length r.targets ≤ answered_targets_limit
   pub targets : All IsShortTarget r.targets
   pub dependency_count : length (flat_map (λ t. t.dependencies) r.targets) ≤ entries_limit
 
@@ -53,12 +53,12 @@ pub record IsShortSourcesItem (i : SourcesItem) : Type 0 where
   pub sources : All IsShortSource i.sources
 
 pub record IsShortSources (r : SourcesResult) : Type 0 where
-  pub count : length r.items ≤ targets_limit
+  pub count : length r.items ≤ answered_targets_limit
   pub items : All IsShortSourcesItem r.items
   pub source_count : length (flat_map (λ i. i.sources) r.items) ≤ entries_limit
 
 pub record IsShortInverseSources (r : InverseSourcesResult) : Type 0 where
-  pub count : length r.targets ≤ targets_limit
+  pub count : length r.targets ≤ answered_targets_limit
   pub targets : All IsShortIdentifier r.targets
 
 -- the most bytes that a short answer prints as

@@ -21,11 +21,6 @@ abbrev pub published : PublishDiagnosticsParams → Table → Table
 published p table document target =
     if is_about p document target then (if p.reset then p.diagnostics else table document target ++ p.diagnostics) else table document target
 
--- what is shown once these lists were published, the newest first
-abbrev pub table_after : List PublishDiagnosticsParams → Table
-table_after [] = nothing_shown
-table_after (p ∷ past) = published p (table_after past)
-
 -- a table once these lists were published, the first of them first
 abbrev pub table_with : List PublishDiagnosticsParams → Table → Table
 table_with [] table = table

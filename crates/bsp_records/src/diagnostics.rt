@@ -1,6 +1,6 @@
 ghost use Rattle.std.specs.Prelude.{⊤};
 
-use crate::bad_params::BadParams;
+use crate::BadParams;
 use crate::kinds::plain;
 use crate::writing::{Write, put, put_some};
 use json_shape::{LabelKind, Read, bad_here, optional, read_between, required};

@@ -1,6 +1,6 @@
 ghost use Rattle.std.specs.Str.{IsUtf8};
 
-use crate::bad_params::BadParams;
+use crate::BadParams;
 use crate::writing::{Write, put};
 use json_shape::{Read, bad_here, required};
 use ob_text::{NoMemory, Text};

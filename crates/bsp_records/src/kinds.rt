@@ -6,16 +6,16 @@ use ob_text::{Bytes, NoMemory, Text};
 use std::alloc::Global;
 
 /// The most bytes of an originId.
-pub const ORIGIN_LIMIT: usize = 1_024;
+const ORIGIN_LIMIT: usize = 1_024;
 
 /// The most bytes of a rootUri.
-pub const ROOT_LIMIT: usize = 4_096;
+const ROOT_URI_LIMIT: usize = 4_096;
 
 /// The originId of a request.
 pub(crate) type OriginId = Bytes<Checked<Within<ORIGIN_LIMIT>>>;
 
 /// The rootUri of an initialize.
-pub(crate) type RootUri = Bytes<Checked<Within<ROOT_LIMIT>>>;
+pub(crate) type RootUri = Bytes<Checked<Within<ROOT_URI_LIMIT>>>;
 
 /// A text of any kind that may be absent, as a text.
 pub(crate) fn plain<K>(found: Option<Bytes<K>>) -> Option<Text>

@@ -6,7 +6,6 @@
 //! `requests.rt`, which read a request by its method.
 #![tactic(auto)]
 
-mod bad_params;
 mod diagnostics;
 mod identifiers;
 mod kinds;
@@ -21,10 +20,9 @@ mod shown;
 mod tasks;
 mod writing;
 
-pub use bad_params::BadParams;
 pub use diagnostics::{DiagnosticRecord, DiagnosticSeverity};
 pub use identifiers::{BuildTargetIdentifier, TextDocumentIdentifier};
-pub use kinds::{ORIGIN_LIMIT, ROOT_LIMIT};
+pub use json_shape::BadValue as BadParams;
 pub use notices::{
     BuildTargetEvent, BuildTargetEventKind, DidChangeParams, LogMessageParams, MessageType,
     write_did_change_params, write_log_message_params,

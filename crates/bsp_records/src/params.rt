@@ -5,11 +5,12 @@ ghost use Rattle.ob_text.specs.Ascii.{IsGraphic};
 ghost use Rattle.serde_json.specs.View.{view};
 ghost use Rattle.bsp_records.specs.Params.{client_capabilities, client_capabilities_in, initialize_params, initialize_params_in, targets_params, sources_params_in, clean_cache_params_in, inverse_sources_params, inverse_sources_params_in, build_params, compile_params_in, test_params_in, run_params, run_params_in, IsTarget, IsInitializeParams, BadInitializeParams, IsInverseSourcesParams, BadInverseSourcesParams, IsSourcesParams, BadSourcesParams, IsCleanCacheParams, BadCleanCacheParams, IsCompileParams, BadCompileParams, IsTestParams, BadTestParams, IsRunParams, BadRunParams, HasInitializeTexts, HasCompileTexts, HasTestTexts, HasRunTexts};
 ghost use Rattle.bsp_records.specs.Limits.{origin_limit};
-ghost use Rattle.bsp_records.specs.Reading.{IfBad, IsPlainPath, ReadBy, Reads, if_there};
+ghost use Rattle.json_shape.specs.Reading.{IfBad, ReadBy, Reads, if_there};
+ghost use Rattle.bsp_records.specs.Reading.{IsPlainPath};
 ghost use Rattle.json_shape.specs.Paths.{longest};
 ghost use Rattle.json_shape.specs.Shapes.{at, bad, bad_if_there, text, text_in, text_within, list_of, member_step, under, IsTextWithin};
 
-use crate::bad_params::BadParams;
+use crate::BadParams;
 use crate::identifiers::{BuildTargetIdentifier, TextDocumentIdentifier};
 use crate::kinds::{OriginId, RootUri};
 use crate::reading::read_params;

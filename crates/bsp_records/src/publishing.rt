@@ -2,10 +2,11 @@ ghost use Rattle.std.specs.Prelude.{◌≡◌, ◌≤◌, false, length, IfOk};
 ghost use Rattle.serde_json.specs.View.{view};
 ghost use Rattle.serde_json.specs.Written.{compact_text, has_float};
 ghost use Rattle.bsp_records.specs.Diagnostics.{publish_diagnostics_params, publish_diagnostics_params_in, publish_diagnostics_params_data, HasPublishTexts, IsPublishDiagnosticsParams, BadPublishDiagnosticsParams};
-ghost use Rattle.bsp_records.specs.Reading.{IfBad, IsPlainPath, ReadBy};
+ghost use Rattle.json_shape.specs.Reading.{IfBad, ReadBy};
+ghost use Rattle.bsp_records.specs.Reading.{IsPlainPath};
 ghost use Rattle.bsp_records.specs.Short.{IsShortPublication, publication_limit};
 
-use crate::bad_params::BadParams;
+use crate::BadParams;
 use crate::diagnostics::DiagnosticRecord;
 use crate::identifiers::{BuildTargetIdentifier, TextDocumentIdentifier};
 use crate::reading::read_params;

@@ -5,7 +5,7 @@ ghost use Rattle.json_shape.specs.Reading.{IfBad, Reads};
 ghost use Rattle.bsp_records.specs.Limits.{path_limit};
 ghost use Rattle.bsp_records.specs.Reading.{bad_params, IsPlainPath};
 
-use crate::bad_params::BadParams;
+use crate::BadParams;
 use json_shape::{Read, read_named};
 use serde_json::Value;
 use std::alloc::Global;

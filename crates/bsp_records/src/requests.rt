@@ -1,10 +1,11 @@
 ghost use Rattle.std.specs.Prelude.{◌≡◌, IfOk, option_map, unwrap_or};
 ghost use Rattle.serde_json.specs.Data.{null};
 ghost use Rattle.serde_json.specs.View.{view};
-ghost use Rattle.bsp_records.specs.Reading.{IfBad, IsPlainPath};
-ghost use Rattle.bsp_records.specs.Requests.{method_named, name_of, request_in, HasRequestTexts, ReadsAs};
+ghost use Rattle.json_shape.specs.Reading.{IfBad};
+ghost use Rattle.bsp_records.specs.Reading.{IsPlainPath};
+ghost use Rattle.bsp_records.specs.Requests.{method_named, method_name, request_in, HasRequestTexts, ReadsAs};
 
-use crate::bad_params::BadParams;
+use crate::BadParams;
 use crate::params::{
     CompileParams, InitializeParams, InverseSourcesParams, SourcesParams, read_compile_params,
     read_initialize_params, read_inverse_sources_params, read_sources_params,

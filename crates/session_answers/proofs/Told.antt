@@ -9,7 +9,9 @@ use Rattle.std.proofs.lemmas.List.Elements.{All-nil, All-cons}
 use Rattle.std.proofs.lemmas.Option.{slice_get_within}
 use Rattle.std.proofs.lemmas.Str.{IsUtf8-from_ascii}
 use Rattle.std.proofs.lemmas.Str.Ascii.{IsAscii-nil, IsAscii-cons}
-use Rattle.bsp_records.specs.ShortAnswers.{IsShortId, IsGraphicWithin}
+use Rattle.ob_text.proofs.AsciiLaws.{graphic_ascii}
+use Rattle.ob_text.specs.Ascii.{IsGraphicWithin}
+use Rattle.bsp_records.specs.ShortAnswers.{IsShortId}
 use Rattle.bsp_records.specs.declared.results.BuildTarget.{BuildTarget}
 use Rattle.bsp_records.specs.declared.results.SourcesItem.{SourcesItem}
 use Rattle.session_answers.proofs.Once.{total, total_front, weighs_less, count_below, distinct_once, all_once, distinct_rising}
@@ -26,13 +28,13 @@ use Rattle.target_graph.proofs.PlainLaws.{plain_name}
 -- ---- addresses and names
 
 pub address_text : (text : List ℕ) → IsPlainAddress text → IsUtf8 text
-address_text text plain = IsUtf8-from_ascii text plain.ascii
+address_text text plain = IsUtf8-from_ascii text (graphic_ascii text plain.graphic)
 
 pub address_short : (text : List ℕ) → IsPlainAddress text → IsShortId text
 address_short text plain = record { graphic = plain.graphic; short = (let s = plain.short in omega arith) }
 
 pub name_text : (name : List ℕ) → is_name name ≡ true → IsUtf8 name
-name_text name is = IsUtf8-from_ascii name (plain_name name is).ascii
+name_text name is = IsUtf8-from_ascii name (graphic_ascii name (plain_name name is).graphic)
 
 pub name_short : (name : List ℕ) → is_name name ≡ true → IsGraphicWithin 255 name
 name_short name is = let plain = plain_name name is in record { graphic = plain.graphic; short = plain.short }

@@ -13,8 +13,9 @@ use Rattle.serde_json.specs.Data.{Data, no_members}
 use Rattle.serde_json.specs.Written.{compact_text, members_text, has_float}
 use Rattle.serde_json.proofs.OnLiterals.{serde_json_on_literals}
 use Rattle.bsp_records.specs.Diagnostics.{publish_diagnostics_params_data}
-use Rattle.bsp_records.specs.Shapes.{IsTextWithin}
-use Rattle.bsp_records.specs.Short.{IsWithin, publication_limit}
+use Rattle.json_shape.specs.Shapes.{IsTextWithin}
+use Rattle.ob_text.specs.Ascii.{IsWithin}
+use Rattle.bsp_records.specs.Short.{publication_limit}
 use Rattle.bsp_records.specs.Shown.{shown}
 use Rattle.bsp_records.specs.Table as tables
 use Rattle.bsp_records.specs.Table.{Table, is_about, published}

@@ -2,9 +2,9 @@ ghost use Rattle.std.specs.Prelude.{◌≡◌, ◌≢◌, ◌++◌, ◌||◌, �
 ghost use Rattle.std.specs.List.{All, AllPairs, list_any};
 ghost use Rattle.ob_text.specs.Held.{IsReadable};
 ghost use Rattle.bsp_records.specs.Diagnostics.{HasPublishTexts, publish_diagnostics_params_data};
-ghost use Rattle.bsp_records.specs.Shapes.{IsTextWithin};
+ghost use Rattle.json_shape.specs.Shapes.{IsTextWithin};
 ghost use Rattle.bsp_records.specs.Short.{IsShortPublication};
-ghost use Rattle.bsp_records.specs.declared.kinds.TheConstants.{ORIGIN_LIMIT};
+ghost use Rattle.bsp_records.specs.Limits.{origin_limit};
 ghost use Rattle.bsp_records.specs.Shown.{HasPlainName};
 ghost use Rattle.ob_text.specs.Code.{severity_of};
 ghost use Rattle.oberon_check.specs.Diagnosed.{Diagnosed};
@@ -43,7 +43,7 @@ pub fn publish_all(
 ) -> Result<Published, NoMemory>
     requires plain { All HasPlainAddress places.now }
     requires distinct { AllPairs ◌≢◌ (map (λ place. place.address) places.now) }
-    requires origin { IfSome origin.now (IsTextWithin ORIGIN_LIMIT) }
+    requires origin { IfSome origin.now (IsTextWithin origin_limit) }
     requires texts { All (λ entry. IsReadable entry.1) snapshot.now.entries }
     ensures published { IfOk result (λ p. IsPublished (shows shown.old) (shows shown.new) places.now
         origin.now snapshot.now.entries (map said p.messages.items) p.failed) }
@@ -70,7 +70,7 @@ fn publish_one(
     messages: &mut VecDeque<Message>,
 ) -> Result<bool, NoMemory>
     requires plain { HasPlainAddress place.now }
-    requires origin { IfSome origin.now (IsTextWithin ORIGIN_LIMIT) }
+    requires origin { IfSome origin.now (IsTextWithin origin_limit) }
     requires readable { IfSome held (λ held. IsReadable held.now) }
     ensures { IfOk result (IsPublishedOne (shows shown.old) (shows shown.new) place.now origin.now
         (held_or_absent held.entry) (map said messages.old.items) (map said messages.new.items)) }

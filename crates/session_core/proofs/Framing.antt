@@ -18,10 +18,10 @@ use Rattle.rpc_peer.specs.declared.message.Id.TheVariants.{Number, Text}
 use Rattle.rpc_peer.specs.Said.{IsId, HasText, id_data, id_limit, answered_data, error_data, version, body_of, result, failure}
 use Rattle.rpc_frame.specs.Limits.{content_limit}
 use Rattle.bsp_records.specs.Results.{compile_result_data, status_data}
-use Rattle.bsp_records.specs.Shapes.{IsTextWithin}
+use Rattle.json_shape.specs.Shapes.{IsTextWithin}
 use Rattle.bsp_records.specs.ShortAnswers.{answer_limit}
 use Rattle.bsp_records.proofs.ShortLaws.{length_member, text_short}
-use Rattle.bsp_records.specs.declared.kinds.TheConstants.{ORIGIN_LIMIT}
+use Rattle.bsp_records.specs.Limits.{origin_limit}
 use Rattle.session_law.specs.Builds.{build_said, status_by}
 use Rattle.session_law.specs.IsFramed.{IsFramed}
 use Rattle.session_law.specs.Methods.{initialize_result, null_message, kind_text, name_behind}
@@ -33,7 +33,7 @@ use Rattle.session_core.specs.declared.verdicts.Reason.{Reason}
 use Rattle.session_core.specs.declared.verdicts.Reason.TheVariants as reasons
 use Rattle.target_graph.specs.declared.fault.FaultKind.{FaultKind}
 use Rattle.target_graph.specs.declared.fault.FaultKind.TheVariants.{NoFile, BadJson, BadField, TooMany, NameTwice, UnknownDependency, DependencyCycle, StemTwice}
-use Rattle.ob_text.proofs.AsciiLaws.{text_from_test}
+use Rattle.ob_text.proofs.AsciiLaws.{graphic_ascii, text_from_test}
 
 -- ---- how long the text of a value is
 
@@ -172,7 +172,7 @@ origin_key : length (quoted (codes "originId")) ≡ 10
 unfolding serde_json_on_literals
 origin_key = refl
 
-with_origin : (text : List ℕ) (failed : Bool) → length text ≤ ORIGIN_LIMIT
+with_origin : (text : List ℕ) (failed : Bool) → length text ≤ origin_limit
     → length (compact_text (object (member (codes "originId") (string text) (member (codes "statusCode") (status_data (status_by failed)) no_members)))) ≤ 7000
 with_origin text failed short =
     let whole = length_object (codes "originId") (string text) (member (codes "statusCode") (status_data (status_by failed)) no_members) in
@@ -181,7 +181,7 @@ with_origin text failed short =
     let last = behind_origin failed in
     omega arith
 
-compiled_short : (origin : Option (List ℕ)) (failed : Bool) → IfSome origin (IsTextWithin ORIGIN_LIMIT) → length (compact_text (compiled origin failed)) ≤ 7000
+compiled_short : (origin : Option (List ℕ)) (failed : Bool) → IfSome origin (IsTextWithin origin_limit) → length (compact_text (compiled origin failed)) ≤ 7000
 unfolding serde_json_on_literals
 compiled_short None true short = without_origin true
 compiled_short None false short = without_origin false
@@ -221,7 +221,7 @@ framed_result id value h printed =
       fits = result_fits id value h (let behind = behind_value value answer_limit printed.short in omega arith);
     }
 
-pub framed_build : (id : Id) (origin : Option (List ℕ)) (failed : Bool) → IsId id → IfSome origin (IsTextWithin ORIGIN_LIMIT) → IsFramed (build_said id origin failed)
+pub framed_build : (id : Id) (origin : Option (List ℕ)) (failed : Bool) → IsId id → IfSome origin (IsTextWithin origin_limit) → IsFramed (build_said id origin failed)
 unfolding build_said
 framed_build id origin failed h short =
     record {
@@ -317,7 +317,7 @@ framed_reason id reasons.InternalError h said = framed_refusal id _ _ h (code_fi
 framed_reason id (reasons.WorkspaceRefused fault) h said =
     framed_refusal id _ _ h (code_fits (reasons.WorkspaceRefused fault))
     (IsUtf8-append (codes "workspace refused: ") (kind_text fault.kind ++ name_behind fault.name) (text_from_test (codes "workspace refused: ") refl)
-    (IsUtf8-append (kind_text fault.kind) (name_behind fault.name) (kind_plain fault.kind) (behind_plain fault.name said.ascii)))
+    (IsUtf8-append (kind_text fault.kind) (name_behind fault.name) (kind_plain fault.kind) (behind_plain fault.name (graphic_ascii fault.name said.graphic))))
     (let l = length-append (codes "workspace refused: ") (kind_text fault.kind ++ name_behind fault.name) in
     let m = length-append (kind_text fault.kind) (name_behind fault.name) in
     let k = kind_short fault.kind in

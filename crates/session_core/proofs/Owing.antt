@@ -22,7 +22,7 @@ use Rattle.session_core.specs.declared.awaiting.Need.TheVariants as needs
 use Rattle.session_core.specs.declared.verdicts.Answer.{Answer}
 use Rattle.session_core.specs.declared.verdicts.Answer.TheVariants as answers
 use Rattle.session_core.proofs.Writes.{allowed_null, allowed_refusal, allowed_result, is_up, judged_so, same_id_refl}
-use Rattle.target_graph.specs.Faults.{Accepted, targets_in}
+use Rattle.target_graph.specs.Faults.{Accepted, file_targets}
 use Rattle.target_graph.specs.Workspace.{Space}
 
 -- what is known of an order that owes these answers, behind a take, a hand or the end of the input
@@ -96,7 +96,7 @@ gives_refusal id v code text base status past o refused framed =
 -- the workspace that was accepted is the one that the file describes
 space_is : (root : List ℕ) (file : Held) (space : Space) → Accepted file root space → Some (space_in root file) ≡ Some space
 space_is root file space accepted =
-    ap (λ r. Some (record { root = r; targets = targets_in file })) (sym accepted.at_root) ∙ ap (λ ts. Some (record { root = space.root; targets = ts })) (sym accepted.all_targets)
+    ap (λ r. Some (record { root = r; targets = file_targets file })) (sym accepted.at_root) ∙ ap (λ ts. Some (record { root = space.root; targets = ts })) (sym accepted.all_targets)
 
 -- an initialize opens the session
 gives_opening : (id : Id) (root : List ℕ) (file : Held) (space : Space) (base : Base) (status : Option ℕ) (past : List Event) → Accepted file root space

@@ -2,8 +2,8 @@
 use Rattle.std.specs.Prelude.{◌≡◌, ◌++◌, ℕ, ℤ, List, [], ◌∷◌, map, codes, Bool, true, Option, Some, None, if◌then◌else◌, Result, Ok, Err}
 use Rattle.std.specs.Option.{IfSome}
 use Rattle.std.specs.Str.{bytes_eq}
-use Rattle.bsp_records.specs.Shapes.{IsTextWithin}
-use Rattle.bsp_records.specs.declared.kinds.TheConstants.{ORIGIN_LIMIT}
+use Rattle.json_shape.specs.Shapes.{IsTextWithin}
+use Rattle.bsp_records.specs.Limits.{origin_limit}
 use Rattle.ob_text.specs.declared.held.Snapshot.{Snapshot}
 use Rattle.rpc_peer.specs.declared.message.Id.{Id}
 use Rattle.rpc_peer.specs.Said.{Said, said, request, notification, result, failure, IsId}
@@ -122,7 +122,7 @@ pub record AnswersAs (old new : Core) (id : Id) (v : Verdict) : Type 0 where
 
 -- the core publishes what the build finds in what was handed out, and answers it
 pub record Builds (old new : Core) (id : Id) (plan : Plan) (entries : Entries) : Type 0 where
-  pub short : IfSome plan.origin (IsTextWithin ORIGIN_LIMIT)
+  pub short : IfSome plan.origin (IsTextWithin origin_limit)
   pub messages : List Said
   pub failed : Bool
   pub published : IsPublished (shows old.shown) (shows new.shown) plan.places plan.origin entries messages failed

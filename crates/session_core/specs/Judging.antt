@@ -1,7 +1,7 @@
 -- What the core finds a request to be owed, in the words of the law.
 use Rattle.std.specs.Prelude.{◌≡◌, ◌≤◌, ◌++◌, ℕ, ℤ, List, length, codes, false, Option, Some, IsSome, Result, Ok, Err, Vec}
 use Rattle.std.specs.declared.alloc.Global.{Global}
-use Rattle.ob_text.specs.Ascii.{IsPlain}
+use Rattle.ob_text.specs.Ascii.{IsGraphicWithin, IsPlain}
 use Rattle.rpc_peer.specs.Meaning.{invalid_request}
 use Rattle.rpc_peer.specs.Said.{Said, result, failure}
 use Rattle.rpc_peer.specs.declared.message.Id.{Id}
@@ -95,7 +95,7 @@ pub record IsPrinted (value : Data) : Type 0 where
 abbrev pub IsSaid : Answer → Type 0
 IsSaid (answers.Result value) = IsPrinted (view value)
 IsSaid (answers.Refused (reasons.InvalidParams path)) = IsPlain said_limit path
-IsSaid (answers.Refused (reasons.WorkspaceRefused fault)) = IsPlain said_limit fault.name
+IsSaid (answers.Refused (reasons.WorkspaceRefused fault)) = IsGraphicWithin said_limit fault.name
 IsSaid answer = Unit {0}
 
 abbrev pub HasTexts : Queued → Type 0

@@ -2,8 +2,8 @@
 use Rattle.std.specs.Prelude.{◌≢◌, ℕ, List, map, Option}
 use Rattle.std.specs.List.{All, AllPairs}
 use Rattle.std.specs.Option.{IfSome}
-use Rattle.bsp_records.specs.Shapes.{IsTextWithin}
-use Rattle.bsp_records.specs.declared.kinds.TheConstants.{ORIGIN_LIMIT}
+use Rattle.json_shape.specs.Shapes.{IsTextWithin}
+use Rattle.bsp_records.specs.Limits.{origin_limit}
 use Rattle.session_build.specs.Placed.{HasPlainAddress, build_of}
 use Rattle.session_core.specs.declared.planned.Planned.TheInside.{Inside}
 use Rattle.session_law.specs.Methods.{Build}
@@ -23,7 +23,7 @@ plan_of planned = record { asked = planned.asked; origin = planned.origin; place
 pub record IsSoundPlan (plan : Plan) : Type 0 where
   pub plain : All HasPlainAddress plan.places
   pub distinct : AllPairs ◌≢◌ (map (λ place. place.address) plan.places)
-  pub short : IfSome plan.origin (IsTextWithin ORIGIN_LIMIT)
+  pub short : IfSome plan.origin (IsTextWithin origin_limit)
 
 -- the build that the law speaks of
 abbrev pub build_in : Space → Plan → Build

@@ -1,7 +1,7 @@
 ghost use Rattle.std.specs.Prelude.{◌≡◌, IfOk};
 ghost use Rattle.std.specs.Option.{IfSome};
-ghost use Rattle.bsp_records.specs.Shapes.{IsTextWithin};
-ghost use Rattle.bsp_records.specs.declared.kinds.TheConstants.{ORIGIN_LIMIT};
+ghost use Rattle.json_shape.specs.Shapes.{IsTextWithin};
+ghost use Rattle.bsp_records.specs.Limits.{origin_limit};
 ghost use Rattle.serde_json.specs.View.{view};
 ghost use Rattle.rpc_peer.specs.Said.{said, result as answers, failure};
 ghost use Rattle.session_law.specs.Builds.{build_said};
@@ -36,7 +36,7 @@ pub fn compiled(
     origin: &Option<Text>,
     failed: bool,
 ) -> Result<Message, NoMemory>
-    requires { IfSome origin.now (IsTextWithin ORIGIN_LIMIT) }
+    requires { IfSome origin.now (IsTextWithin origin_limit) }
     ensures { IfOk result (λ m. said m ≡ build_said id origin.now failed) }
 {
     let origin_id = match origin {

@@ -3,8 +3,8 @@ ghost use Rattle.std.specs.List.{All};
 ghost use Rattle.std.specs.Str.{IsUtf8};
 ghost use Rattle.bsp_records.specs.Params.{IsTarget, HasCompileTexts};
 ghost use Rattle.bsp_records.specs.Requests.{HasRequestTexts, request_in};
-ghost use Rattle.bsp_records.specs.Shapes.{IsTextWithin};
-ghost use Rattle.bsp_records.specs.declared.kinds.TheConstants.{ROOT_LIMIT};
+ghost use Rattle.json_shape.specs.Shapes.{IsTextWithin};
+ghost use Rattle.bsp_records.specs.Limits.{root_uri_limit};
 ghost use Rattle.bsp_records.specs.declared.requests.Method.TheVariants.{Initialize};
 ghost use Rattle.serde_json.specs.View.{view};
 ghost use Rattle.session_law.specs.Methods.{opening, verdict, verdict_for, is_initialize, served_in, read_in, first_asked, asked_of, rooted, sourced, found_from, found_build, target_path, taken_in};
@@ -123,7 +123,7 @@ fn judge_first(alloc: Global, request: Request) -> Result<Owed, NoMemory>
 }
 
 fn judge_root(alloc: Global, uri: &Text) -> Result<Owed, NoMemory>
-    requires { IsTextWithin ROOT_LIMIT uri.now }
+    requires { IsTextWithin root_uri_limit uri.now }
     ensures judged { IfOk result (Judges None (rooted (root_at uri.now))) }
     ensures short { IfOk result IsSaidOwed }
 {

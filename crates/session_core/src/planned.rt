@@ -25,14 +25,14 @@ impl Planned {
     ghost use Rattle.std.specs.Prelude.{◌≡◌, ◌≢◌, map};
     ghost use Rattle.std.specs.List.{All, AllPairs};
     ghost use Rattle.std.specs.Option.{IfSome};
-    ghost use Rattle.bsp_records.specs.Shapes.{IsTextWithin};
-    ghost use Rattle.bsp_records.specs.declared.kinds.TheConstants.{ORIGIN_LIMIT};
+    ghost use Rattle.json_shape.specs.Shapes.{IsTextWithin};
+    ghost use Rattle.bsp_records.specs.Limits.{origin_limit};
     ghost use Rattle.session_build.specs.Placed.{HasPlainAddress};
 
     pub fn new(asked: Items<u32>, origin: Option<Text>, places: Items<Place>) -> Planned
         requires plain { All HasPlainAddress places }
         requires distinct { AllPairs ◌≢◌ (map (λ place. place.address) places) }
-        requires short { IfSome origin (IsTextWithin ORIGIN_LIMIT) }
+        requires short { IfSome origin (IsTextWithin origin_limit) }
         ensures { result ≡ record { asked = asked; origin = origin; places = places } }
     {
         Planned {
@@ -53,7 +53,7 @@ impl Planned {
 
     pub fn origin(&self) -> &Option<Text>
         ensures origin { result.now ≡ self.now.origin }
-        ensures short { IfSome result.now (IsTextWithin ORIGIN_LIMIT) }
+        ensures short { IfSome result.now (IsTextWithin origin_limit) }
     {
         &self.origin
     }

@@ -4,7 +4,7 @@ use Rattle.bsp_records.specs.Table.{Table, nothing_shown}
 use Rattle.ob_text.specs.declared.held.Held.{Held}
 use Rattle.rpc_peer.specs.Meaning.{meaning, invalid_request, parse_error}
 use Rattle.rpc_peer.specs.Said.{Said, request, notification, result, failure}
-use Rattle.target_graph.specs.Faults.{targets_in}
+use Rattle.target_graph.specs.Faults.{file_targets}
 use Rattle.target_graph.specs.Workspace.{Space}
 use Rattle.session_law.specs.Builds.{shown_by}
 use Rattle.session_law.specs.Methods.{Verdict, opening, is_named}
@@ -17,7 +17,7 @@ use Rattle.session_law.specs.declared.InputEnd.TheVariants.{Border, Damaged, Fai
 
 -- the workspace that a file describes, at this root
 abbrev pub space_in : List ℕ → Held → Space
-space_in root file = record { root = root; targets = targets_in file }
+space_in root file = record { root = root; targets = file_targets file }
 
 -- the workspace in force once a request was answered with a result that was owed this
 abbrev pub force_by : Option Verdict → Option Space → Option Space

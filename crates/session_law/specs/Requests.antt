@@ -1,6 +1,6 @@
 -- The requests that are open: what each is owed, which of them comes first, and how events change them.
 use Rattle.std.specs.Prelude.{◌≡◌, ◌||◌, ◌&&◌, ℕ, ℤ, List, [], ◌∷◌, ◌++◌, codes, Bool, true, false, Option, Some, None, is_some, option_and_then, Result, Ok, Err, if◌then◌else◌}
-use Rattle.bsp_records.specs.Shapes.{at}
+use Rattle.json_shape.specs.Shapes.{at}
 use Rattle.rpc_peer.specs.declared.message.Id.{Id}
 use Rattle.rpc_peer.specs.Meaning.{id_in}
 use Rattle.rpc_peer.specs.OpenIds.{same_id}

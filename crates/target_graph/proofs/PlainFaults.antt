@@ -11,7 +11,7 @@ use Rattle.target_graph.specs.declared.fault.WorkspaceRefusal.{WorkspaceRefusal}
 use Rattle.target_graph.specs.declared.fault.WorkspaceRefusal.TheVariants as refusals
 use Rattle.target_graph.specs.declared.target.Pair.{Pair}
 use Rattle.target_graph.specs.declared.target.Target.{Target}
-use Rattle.target_graph.specs.Faults.{entries_in, names_of, dependencies_of, modules_of, targets_in, too_many, rank, Passed, IsFault, IsFirstCycle, IsFirstStemTwice, Looks}
+use Rattle.target_graph.specs.Faults.{file_entries, names_of, dependencies_of, modules_of, file_targets, too_many, rank, Passed, HasFault, IsFirstCycle, IsFirstStemTwice, Looks}
 use Rattle.target_graph.specs.Listing.{Refuses}
 use Rattle.target_graph.specs.Names.{is_name, stem, IsPlainName}
 use Rattle.target_graph.specs.Workspace.{pairs_of, stem_at, AreValid}
@@ -68,30 +68,30 @@ plain_pair targets name valid f =
     subst IsPlainName (sym there ∙ f.named) (plain_stem (get_or pairs f.pair s.pair).path (pairs_valid targets valid f.pair s.pair h))
 
 -- what a fault is about, but for a field, whose index may be any
-plain_fault : (held : Held) (kind : FaultKind) → ¬ (rank kind ≡ 2) → Passed held (rank kind) → (name : List ℕ) → IsFault held kind name → IsPlainName name
+plain_fault : (held : Held) (kind : FaultKind) → ¬ (rank kind ≡ 2) → Passed held (rank kind) → (name : List ℕ) → HasFault held kind name → IsPlainName name
 plain_fault held kinds.NoFile other passed name f = plain_empty name f.1
 plain_fault held kinds.BadJson other passed name f = plain_empty name f.1
 plain_fault held kinds.BadField other passed name f = absurd (other refl)
-plain_fault held kinds.TooMany other passed name f = plain_many (entries_in held) name f
+plain_fault held kinds.TooMany other passed name f = plain_many (file_entries held) name f
 plain_fault held kinds.NameTwice other passed name f =
-    plain_among (names_of (entries_in held)) f.before name f.after (names_right (entries_in held) (held_right held (λ k n h. passed k n (omega arith)))) f.whole
+    plain_among (names_of (file_entries held)) f.before name f.after (names_right (file_entries held) (held_right held (λ k n h. passed k n (omega arith)))) f.whole
 plain_fault held kinds.UnknownDependency other passed name f =
-    plain_among (dependencies_of (entries_in held)) f.before name f.after (dependencies_right (entries_in held) (held_right held (λ k n h. passed k n (omega arith)))) f.whole
+    plain_among (dependencies_of (file_entries held)) f.before name f.after (dependencies_right (file_entries held) (held_right held (λ k n h. passed k n (omega arith)))) f.whole
 plain_fault held kinds.DependencyCycle other passed name f =
-    plain_target (targets_in held) name (valid_of (names_of (entries_in held)) (entries_in held) (held_right held (λ k n h. passed k n (omega arith)))) f
+    plain_target (file_targets held) name (valid_of (names_of (file_entries held)) (file_entries held) (held_right held (λ k n h. passed k n (omega arith)))) f
 plain_fault held kinds.StemTwice other passed name f =
-    plain_pair (targets_in held) name (valid_of (names_of (entries_in held)) (entries_in held) (held_right held (λ k n h. passed k n (omega arith)))) f
+    plain_pair (file_targets held) name (valid_of (names_of (file_entries held)) (file_entries held) (held_right held (λ k n h. passed k n (omega arith)))) f
 
 -- a step that found a fault refuses the file
 pub refuses : {T : Type 0} (held : Held) (kind : FaultKind) → ¬ (rank kind ≡ 2) → (r : WorkspaceRefusal) (IsBad : List ℕ → Type 0) (IsGood : T → Type 0) → Passed held (rank kind)
-    → ((name : List ℕ) → IsBad name → IsFault held kind name) → Looks (Err r) kind IsBad IsGood → Refuses held r
+    → ((name : List ℕ) → IsBad name → HasFault held kind name) → Looks (Err r) kind IsBad IsGood → Refuses held r
 refuses held kind other (refusals.Fault fault) IsBad IsGood before is h =
     (refused held kind (refusals.Fault fault) IsBad IsGood before is h, plain_fault held kind other before fault.name (is fault.name h.1))
 refuses held kind other refusals.NoMemory IsBad IsGood before is h = (tt, tt)
 
 -- the same of a field, of whose path more is known
 pub refuses_field : {T : Type 0} (held : Held) (r : WorkspaceRefusal) (IsBad : List ℕ → Type 0) (IsGood : T → Type 0) → Passed held 2
-    → ((name : List ℕ) → IsBad name → IsFault held kinds.BadField name × IsPlainName name) → Looks (Err r) kinds.BadField IsBad IsGood → Refuses held r
+    → ((name : List ℕ) → IsBad name → HasFault held kinds.BadField name × IsPlainName name) → Looks (Err r) kinds.BadField IsBad IsGood → Refuses held r
 refuses_field held (refusals.Fault fault) IsBad IsGood before is h =
     (refused held kinds.BadField (refusals.Fault fault) IsBad IsGood before (λ name bad. (is name bad).0) h, (is fault.name h.1).1)
 refuses_field held refusals.NoMemory IsBad IsGood before is h = (tt, tt)

@@ -10,13 +10,12 @@ use Rattle.std.proofs.lemmas.List.Elements.{All-take, All-drop, All-weaker}
 use Rattle.std.proofs.lemmas.List.Folds.{list_all-append}
 use Rattle.std.proofs.lemmas.List.Sums.{AllPass-from_list_all, list_all-from_AllPass}
 use Rattle.std.proofs.lemmas.Str.Ascii.{IsAscii-from_all}
-use Rattle.ob_text.specs.Ascii.{IsGraphic}
+use Rattle.ob_text.specs.Ascii.{IsGraphic, IsGraphicWithin}
 use Rattle.json_shape.specs.Paths.{longest}
 use Rattle.target_graph.specs.File.{file}
 use Rattle.target_graph.specs.Limits.{name_limit}
 use Rattle.target_graph.specs.Address.{target_address, document_address, IsPlainAddress}
-use Rattle.target_graph.specs.Names.{is_name_byte, is_word, is_name, is_segment, segments, stem, is_module_name, is_path, IsPlainName}
-use Rattle.target_graph.specs.Plain.{IsPlain}
+use Rattle.target_graph.specs.Names.{is_name_byte, are_name_bytes, is_name, is_segment, segments, stem, is_module_name, is_path, IsPlainName}
 use Rattle.target_graph.specs.Root.{IsRoot}
 
 -- ---- plain texts, one behind another
@@ -25,21 +24,17 @@ use Rattle.target_graph.specs.Root.{IsRoot}
 all_weaker : (p q : ℕ → Bool) → ((b : ℕ) → p b ≡ true → q b ≡ true) → (bs : List ℕ) → list_all p bs ≡ true → list_all q bs ≡ true
 all_weaker p q less bs e = list_all-from_AllPass q bs (All-weaker (λ b. p b ≡ true) (λ b. q b ≡ true) less bs (AllPass-from_list_all p bs e))
 
-graphic_ascii : (b : ℕ) → is_ascii_graphic b ≡ true → b < 128
-graphic_ascii b e = grind (arith, nat_tests)
-
 -- printing ASCII characters, no longer than the limit
-pub plain_bytes : (n : ℕ) (bs : List ℕ) → list_all is_ascii_graphic bs ≡ true → length bs ≤ n → IsPlain n bs
+pub plain_bytes : (n : ℕ) (bs : List ℕ) → list_all is_ascii_graphic bs ≡ true → length bs ≤ n → IsGraphicWithin n bs
 plain_bytes n bs e h = record {
-  ascii = IsAscii-from_all bs (All-weaker (λ b. is_ascii_graphic b ≡ true) (λ b. b < 128) graphic_ascii bs (AllPass-from_list_all is_ascii_graphic bs e));
   graphic = e;
   short = h;
 }
 
-pub plain_within : (a b : ℕ) (text : List ℕ) → a ≤ b → IsPlain a text → IsPlain b text
+pub plain_within : (a b : ℕ) (text : List ℕ) → a ≤ b → IsGraphicWithin a text → IsGraphicWithin b text
 plain_within a b text h p = plain_bytes b text p.graphic (let s = p.short in omega arith)
 
-pub plain_append : (a b : ℕ) (xs ys : List ℕ) → IsPlain a xs → IsPlain b ys → IsPlain (a + b) (xs ++ ys)
+pub plain_append : (a b : ℕ) (xs ys : List ℕ) → IsGraphicWithin a xs → IsGraphicWithin b ys → IsGraphicWithin (a + b) (xs ++ ys)
 plain_append a b xs ys p q =
     plain_bytes (a + b) (xs ++ ys) (list_all-append is_ascii_graphic xs ys ∙ and_from _ _ p.graphic q.graphic)
     (let s = p.short in let t = q.short in omega (arith, length-append xs ys))
@@ -49,13 +44,13 @@ plain_append a b xs ys p q =
 name_byte : (b : ℕ) → is_name_byte b ≡ true → is_ascii_graphic b ≡ true
 name_byte b e = grind (arith, nat_tests)
 
-word_bytes : (text : List ℕ) → is_word text ≡ true → list_all is_name_byte text ≡ true
+word_bytes : (text : List ℕ) → are_name_bytes text ≡ true → list_all is_name_byte text ≡ true
 word_bytes text e = (and_parts (not (eqb (length text) 0)) (list_all is_name_byte text) e).1
 
 pub plain_name : (text : List ℕ) → is_name text ≡ true → IsPlainName text
 unfolding is_name
 plain_name text e =
-    let h = and_parts (is_word text) (leb (length text) name_limit) e in
+    let h = and_parts (are_name_bytes text) (leb (length text) name_limit) e in
     plain_bytes name_limit text (all_weaker is_name_byte is_ascii_graphic name_byte text (word_bytes text h.0)) (leb-true (length text) name_limit h.1)
 
 -- ---- paths and stems
@@ -67,8 +62,8 @@ words_of : (parts : List (List ℕ)) → list_all is_segment parts ≡ true → 
 words_of [] e = refl
 words_of (part ∷ parts) e =
     let h = and_parts (is_segment part) (list_all is_segment parts) e in
-    let one = and_parts (is_word part && not (bytes_eq part (codes "."))) (not (bytes_eq part (codes ".."))) h.0 in
-    let two = and_parts (is_word part) (not (bytes_eq part (codes "."))) one.0 in
+    let one = and_parts (are_name_bytes part && not (bytes_eq part (codes "."))) (not (bytes_eq part (codes ".."))) h.0 in
+    let two = and_parts (are_name_bytes part) (not (bytes_eq part (codes "."))) one.0 in
     ap (λ b. b && are_words parts) (word_bytes part two.0) ∙ words_of parts h.1
 
 -- one byte before the first part

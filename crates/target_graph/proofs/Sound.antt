@@ -17,11 +17,11 @@ use Rattle.target_graph.specs.declared.target.Target.{Target}
 use Rattle.target_graph.specs.declared.target.Pair.{Pair}
 use Rattle.target_graph.specs.Names.{is_name, is_path}
 use Rattle.target_graph.specs.File.{bad_file, dependency_fields, entries_of, entry_of, file, file_fields, given_texts, is_kind, kind_fields, main_fields, module_fields, target, target_fields, targets_fields}
-use Rattle.target_graph.specs.Faults.{value_in, entries_in, names_of, modules_of, dependencies_of, index_of, target_of, targets_in, too_many, Passed}
+use Rattle.target_graph.specs.Faults.{file_value, file_entries, names_of, modules_of, dependencies_of, index_of, target_of, file_targets, too_many, Passed}
 use Rattle.target_graph.specs.Listing.{IsListing}
 use Rattle.target_graph.specs.declared.reading.Listing.{Listing}
 use Rattle.target_graph.specs.Workspace.{AreValid, pairs_at, pairs_from, pairs_of}
-use Rattle.target_graph.specs.Kept.{IsSound, IsSoundOf}
+use Rattle.target_graph.specs.Kept.{IsSoundListing, IsSoundOf}
 use Rattle.target_graph.proofs.Listed.{listed_any}
 use Rattle.target_graph.proofs.Refusals.{bad_of_value, entries_of_value}
 
@@ -76,14 +76,14 @@ passed_fields : (o : Option (List ℕ)) → ((name : List ℕ) → ¬ (o ≡ Som
 passed_fields None none = refl
 passed_fields (Some name) none = absurd (none name refl)
 
-none_in : (held : Held) → value_in held ≡ None → entries_in held ≡ []
-unfolding entries_in
+none_in : (held : Held) → file_value held ≡ None → file_entries held ≡ []
+unfolding file_entries
 none_in held e = ap (λ (o : Option Data). option_map_or entries_of o []) e
 
-pub held_right : (held : Held) → Passed held 3 → All IsRight (entries_in held)
-held_right held passed = go (value_in held) refl
+pub held_right : (held : Held) → Passed held 3 → All IsRight (file_entries held)
+held_right held passed = go (file_value held) refl
   where
-    go : (o : Option Data) → value_in held ≡ o → All IsRight (entries_in held)
+    go : (o : Option Data) → file_value held ≡ o → All IsRight (file_entries held)
     go None e = subst (λ (es : List Entry). All IsRight es) (sym (none_in held e)) (All-nil IsRight)
     go (Some d) e =
         subst (λ (es : List Entry). All IsRight es) (sym (entries_of_value held d e))
@@ -177,10 +177,10 @@ names_same keys (e ∷ es) = ap (λ (xs : List (List ℕ)). e.name ∷ xs) (name
 
 -- ---- all together
 
-pub sound_of : (held : Held) (listing : Listing) → IsListing held listing → IsSound listing
+pub sound_of : (held : Held) (listing : Listing) → IsListing held listing → IsSoundListing listing
 unfolding pairs_of
 sound_of held listing is =
-    let entries = entries_in held in
+    let entries = file_entries held in
     let keys = listing.names.keys in
     let targets = map (target_of keys) entries in
     let few = few_of entries is.few in
@@ -200,5 +200,5 @@ sound_of held listing is =
       distinct = subst (λ (xs : List (List ℕ)). AllPairs ◌≢◌ xs) (sym is.index.same) is.index.distinct;
     })
 
-pub targets_same : (held : Held) (listing : Listing) → IsListing held listing → listing.targets.items ≡ targets_in held
-targets_same held listing is = is.resolved.each ∙ ap (λ (keys : List (List ℕ)). map (target_of keys) (entries_in held)) is.index.same
+pub targets_same : (held : Held) (listing : Listing) → IsListing held listing → listing.targets.items ≡ file_targets held
+targets_same held listing is = is.resolved.each ∙ ap (λ (keys : List (List ℕ)). map (target_of keys) (file_entries held)) is.index.same

@@ -5,8 +5,8 @@ use Rattle.std.specs.List.{list_all}
 use Rattle.std.specs.Result.{result_ok}
 use Rattle.url.specs.Parts.{Parts, serialize, cannot_be_a_base}
 use Rattle.url.specs.Parser.{parse_url}
+use Rattle.ob_text.specs.Ascii.{IsGraphicWithin}
 use Rattle.target_graph.specs.Limits.{address_limit, root_limit}
-use Rattle.target_graph.specs.Plain.{IsPlain}
 
 -- the text that url prints for an address that it reads
 unfoldable pub printed : List ℕ → Option (List ℕ)
@@ -44,7 +44,7 @@ document_address root path = root ++ path
 
 -- what ids and addresses are
 abbrev pub IsPlainAddress : List ℕ → Type 0
-IsPlainAddress text = IsPlain address_limit text
+IsPlainAddress text = IsGraphicWithin address_limit text
 
 -- The address that comes in is spelled so, or url prints it so.
 abbrev pub IsSpelling : List ℕ → List ℕ → Type 0

@@ -20,21 +20,21 @@ use Rattle.target_graph.specs.Workspace.{Space, Circles, Sees, stem_at}
 
 -- ---- what a file says
 
-abbrev pub text_in : Held → Option (List ℕ)
-text_in (helds.Text text) = Some text
-text_in helds.Absent = None
-text_in helds.TooLarge = None
-text_in helds.NotText = None
+abbrev pub file_text : Held → Option (List ℕ)
+file_text (helds.Text text) = Some text
+file_text helds.Absent = None
+file_text helds.TooLarge = None
+file_text helds.NotText = None
 
 abbrev pub json_of : List ℕ → Option Data
 json_of text = if is_utf8 text then read text else None
 
-abbrev pub value_in : Held → Option Data
-value_in held = option_and_then json_of (text_in held)
+abbrev pub file_value : Held → Option Data
+file_value held = option_and_then json_of (file_text held)
 
 -- what the file says of its targets, where it says anything
-unfoldable pub entries_in : Held → List Entry
-entries_in held = option_map_or entries_of (value_in held) []
+unfoldable pub file_entries : Held → List Entry
+file_entries held = option_map_or entries_of (file_value held) []
 
 abbrev pub names_of : List Entry → List (List ℕ)
 names_of entries = map (λ entry. entry.name) entries
@@ -62,8 +62,8 @@ target_of names entry = record {
 abbrev pub targets_of : List Entry → List Target
 targets_of entries = map (target_of (names_of entries)) entries
 
-abbrev pub targets_in : Held → List Target
-targets_in held = targets_of (entries_in held)
+abbrev pub file_targets : Held → List Target
+file_targets held = targets_of (file_entries held)
 
 -- ---- faults
 
@@ -117,15 +117,15 @@ pub record IsFirstStemTwice (targets : List Target) (name : List ℕ) : Type 0 w
   pub first_target : (earlier : ℕ) → earlier < index → (q : ℕ) → ¬ (IsRepeat targets earlier q)
 
 -- The fault stands in the file, and is about this name.
-abbrev pub IsFault : Held → FaultKind → List ℕ → Type 0
-IsFault held kinds.NoFile name = (text_in held ≡ None) × (name ≡ [])
-IsFault held kinds.BadJson name = (value_in held ≡ None) × (name ≡ [])
-IsFault held kinds.BadField name = option_and_then bad_file (value_in held) ≡ Some name
-IsFault held kinds.TooMany name = too_many (entries_in held) ≡ Some name
-IsFault held kinds.NameTwice name = IsFirstRepeat (names_of (entries_in held)) name
-IsFault held kinds.UnknownDependency name = IsFirstUnknown (names_of (entries_in held)) (dependencies_of (entries_in held)) name
-IsFault held kinds.DependencyCycle name = IsFirstCycle (targets_in held) name
-IsFault held kinds.StemTwice name = IsFirstStemTwice (targets_in held) name
+abbrev pub HasFault : Held → FaultKind → List ℕ → Type 0
+HasFault held kinds.NoFile name = (file_text held ≡ None) × (name ≡ [])
+HasFault held kinds.BadJson name = (file_value held ≡ None) × (name ≡ [])
+HasFault held kinds.BadField name = option_and_then bad_file (file_value held) ≡ Some name
+HasFault held kinds.TooMany name = too_many (file_entries held) ≡ Some name
+HasFault held kinds.NameTwice name = IsFirstRepeat (names_of (file_entries held)) name
+HasFault held kinds.UnknownDependency name = IsFirstUnknown (names_of (file_entries held)) (dependencies_of (file_entries held)) name
+HasFault held kinds.DependencyCycle name = IsFirstCycle (file_targets held) name
+HasFault held kinds.StemTwice name = IsFirstStemTwice (file_targets held) name
 
 -- the order in which faults are looked for
 abbrev pub rank : FaultKind → ℕ
@@ -140,18 +140,18 @@ rank kinds.StemTwice = 7
 
 -- no fault of a lower rank stands in the file
 abbrev pub Passed : Held → ℕ → Type 0
-Passed held limit = (earlier : FaultKind) (other : List ℕ) → rank earlier < limit → ¬ (IsFault held earlier other)
+Passed held limit = (earlier : FaultKind) (other : List ℕ) → rank earlier < limit → ¬ (HasFault held earlier other)
 
 -- The file is refused by the first of its faults.
 pub record Refused (held : Held) (kind : FaultKind) (name : List ℕ) : Type 0 where
-  pub fault : IsFault held kind name
+  pub fault : HasFault held kind name
   pub first : Passed held (rank kind)
 
 -- The file has no fault, and this is the workspace at this root.
 pub record Accepted (held : Held) (root : List ℕ) (space : Space) : Type 0 where
-  pub faultless : (kind : FaultKind) (name : List ℕ) → ¬ (IsFault held kind name)
+  pub faultless : (kind : FaultKind) (name : List ℕ) → ¬ (HasFault held kind name)
   pub at_root : space.root ≡ root
-  pub all_targets : space.targets ≡ targets_in held
+  pub all_targets : space.targets ≡ file_targets held
 
 -- a refusal gives the first fault; want of memory says nothing
 abbrev pub IsRefusal : Held → WorkspaceRefusal → Type 0
@@ -159,12 +159,12 @@ IsRefusal held (refusals.Fault fault) = Refused held fault.kind fault.name
 IsRefusal held refusals.NoMemory = Unit {0}
 
 -- what a refusal names is plain
-abbrev pub HasPlainName : WorkspaceRefusal → Type 0
-HasPlainName (refusals.Fault fault) = IsPlainName fault.name
-HasPlainName refusals.NoMemory = Unit {0}
+abbrev pub IsPlainRefusal : WorkspaceRefusal → Type 0
+IsPlainRefusal (refusals.Fault fault) = IsPlainName fault.name
+IsPlainRefusal refusals.NoMemory = Unit {0}
 
 -- an index of these names: no two are equal
-pub record IsIndex (keys names : List (List ℕ)) : Type 0 where
+pub record IsNameIndex (keys names : List (List ℕ)) : Type 0 where
   pub same : keys ≡ names
   pub distinct : AllPairs ◌≢◌ names
 

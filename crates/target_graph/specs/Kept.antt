@@ -25,8 +25,8 @@ pub record IsSoundOf (keys : List (List ℕ)) (targets : List Target) : Type 0 w
   pub names : keys ≡ map (λ target. target.name) targets
   pub distinct : AllPairs ◌≢◌ keys
 
-abbrev pub IsSound : Listing → Type 0
-IsSound listing = IsSoundOf listing.names.keys listing.targets.items
+abbrev pub IsSoundListing : Listing → Type 0
+IsSoundListing listing = IsSoundOf listing.names.keys listing.targets.items
 
 pub record IsKept (w : Inside) : Type 0 where
   pub sound : IsSoundOf w.names.keys w.targets.items

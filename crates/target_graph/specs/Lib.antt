@@ -8,7 +8,6 @@ pub mod Listers
 pub mod Listing
 pub mod Met
 pub mod Names
-pub mod Plain
 pub mod Root
 pub mod Stems
 pub mod Walk

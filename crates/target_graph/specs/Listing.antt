@@ -4,17 +4,17 @@ use Rattle.ob_text.specs.declared.held.Held.{Held}
 use Rattle.target_graph.specs.declared.fault.WorkspaceRefusal.{WorkspaceRefusal}
 use Rattle.target_graph.specs.declared.reading.Listing.{Listing}
 use Rattle.target_graph.specs.Workspace.{Space}
-use Rattle.target_graph.specs.Faults.{entries_in, names_of, too_many, Passed, IsIndex, IsResolved, IsRefusal, HasPlainName, Accepted}
+use Rattle.target_graph.specs.Faults.{file_entries, names_of, too_many, Passed, IsNameIndex, IsResolved, IsRefusal, IsPlainRefusal, Accepted}
 
 pub record IsListing (held : Held) (listing : Listing) : Type 0 where
-  pub few : too_many (entries_in held) ≡ None
-  pub index : IsIndex listing.names.keys (names_of (entries_in held))
-  pub resolved : IsResolved listing.names.keys (entries_in held) listing.targets.items
+  pub few : too_many (file_entries held) ≡ None
+  pub index : IsNameIndex listing.names.keys (names_of (file_entries held))
+  pub resolved : IsResolved listing.names.keys (file_entries held) listing.targets.items
   pub passed : Passed held 6
 
 -- a refusal by the first fault, with a plain name
 abbrev pub Refuses : Held → WorkspaceRefusal → Type 0
-Refuses held refusal = IsRefusal held refusal × HasPlainName refusal
+Refuses held refusal = IsRefusal held refusal × IsPlainRefusal refusal
 
 abbrev pub GivesListing : Held → Result Listing WorkspaceRefusal → Type 0
 GivesListing held (Ok listing) = IsListing held listing

@@ -6,20 +6,20 @@ use Rattle.std.specs.Str.{bytes_eq}
 use Rattle.oberon_scan.specs.declared.token.Word.{Word}
 use Rattle.oberon_scan.specs.Finding.{find_word}
 use Rattle.oberon_scan.specs.Spelling.{spelling}
+use Rattle.ob_text.specs.Ascii.{IsGraphicWithin}
 use Rattle.target_graph.specs.Limits.{name_limit}
-use Rattle.target_graph.specs.Plain.{IsPlain}
 
 -- a letter, a digit, `_`, `.` or `-`
 abbrev pub is_name_byte : ℕ → Bool
 is_name_byte byte = is_ascii_alphanumeric byte || (byte == 95) || (byte == 46) || (byte == 45)
 
 -- one or more bytes of names
-abbrev pub is_word : List ℕ → Bool
-is_word text = not (length text == 0) && list_all is_name_byte text
+abbrev pub are_name_bytes : List ℕ → Bool
+are_name_bytes text = not (length text == 0) && list_all is_name_byte text
 
 -- the name of a target
 unfoldable pub is_name : List ℕ → Bool
-is_name text = is_word text && nat_le (length text) name_limit
+is_name text = are_name_bytes text && nat_le (length text) name_limit
 
 -- the parts of a path, between its slashes
 abbrev pub segments : List ℕ → List (List ℕ)
@@ -35,7 +35,7 @@ stem path = before_first (λ byte. byte == 46) (last_segment path)
 
 -- a segment of a path is a word that leads to no other folder
 abbrev pub is_segment : List ℕ → Bool
-is_segment text = is_word text && not (bytes_eq text (codes ".")) && not (bytes_eq text (codes ".."))
+is_segment text = are_name_bytes text && not (bytes_eq text (codes ".")) && not (bytes_eq text (codes ".."))
 
 -- a letter, and then letters and digits (The Programming Language Oberon-07, section 3)
 abbrev pub is_identifier : List ℕ → Bool
@@ -58,4 +58,4 @@ is_path text = nat_le (length text) name_limit && list_all is_segment (segments 
 
 -- what the names of targets, the stems of modules and the paths of a file's fields are
 abbrev pub IsPlainName : List ℕ → Type 0
-IsPlainName text = IsPlain name_limit text
+IsPlainName text = IsGraphicWithin name_limit text

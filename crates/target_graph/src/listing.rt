@@ -1,7 +1,7 @@
 ghost use Rattle.std.specs.Prelude.{◌≡◌, ◌<◌, ◌≤◌, ◌^◌, codes, length, nat_lt, None, Some, map, All, Contains, IfOk, IfSome, IfNone, not, ◌∷◌, ◌++◌, [], if◌then◌else◌};
 ghost use Rattle.std.specs.List.{list_any};
 ghost use Rattle.std.specs.Str.{bytes_eq};
-ghost use Rattle.target_graph.specs.Faults.{too_many, modules_of, dependencies_of, names_of, target_of, index_of, IsFirstRepeat, IsFirstUnknown, IsAbout, IsIndex, IsResolved, Looks};
+ghost use Rattle.target_graph.specs.Faults.{too_many, modules_of, dependencies_of, names_of, target_of, index_of, IsFirstRepeat, IsFirstUnknown, IsAbout, IsNameIndex, IsResolved, Looks};
 ghost use Rattle.target_graph.specs.declared.fault.FaultKind.TheVariants as kinds;
 ghost use Rattle.target_graph.specs.declared.target.Target.{Target};
 ghost use Rattle.target_graph.specs.Limits.{dependencies_limit, pairs_limit, targets_limit};
@@ -83,7 +83,7 @@ pub(crate) fn index_names(
     entries: &[Entry],
 ) -> Result<IndexSet<Name>, WorkspaceRefusal>
     ensures { Looks result kinds.NameTwice (IsFirstRepeat (names_of entries.now)) (λ names.
-        IsIndex names.keys (names_of entries.now)) }
+        IsNameIndex names.keys (names_of entries.now)) }
 {
     let mut names = IndexSet::new(alloc);
     for entry in entries {

@@ -16,7 +16,7 @@ const NAME_LIMIT: usize = 255;
 pub(crate) fn is_name(text: &[u8]) -> bool
     ensures { result ≡ spec.is_name text.now }
 {
-    is_word(text) && text.len() <= NAME_LIMIT
+    are_name_bytes(text) && text.len() <= NAME_LIMIT
 }
 
 /// Whether a text may be the path of a module.
@@ -75,11 +75,11 @@ fn is_segment(text: &[u8]) -> bool
 {
     const HERE: &[u8] = b".";
     const ABOVE: &[u8] = b"..";
-    is_word(text) && text != HERE && text != ABOVE
+    are_name_bytes(text) && text != HERE && text != ABOVE
 }
 
-fn is_word(text: &[u8]) -> bool
-    ensures { result ≡ spec.is_word text.now }
+fn are_name_bytes(text: &[u8]) -> bool
+    ensures { result ≡ spec.are_name_bytes text.now }
 {
     !text.is_empty() && has_name_bytes(text)
 }

@@ -1,7 +1,7 @@
 ghost use Rattle.std.specs.Prelude.{◌≡◌, [], None, Some, IfOk, option_map};
 ghost use Rattle.ob_text.specs.declared.held.Held.{Held};
 ghost use Rattle.serde_json.specs.View.{view};
-ghost use Rattle.target_graph.specs.Faults.{text_in, json_of, value_in, entries_in, names_of, too_many, Looks, Passed, IsIndex};
+ghost use Rattle.target_graph.specs.Faults.{file_text, json_of, file_value, file_entries, names_of, too_many, Looks, Passed, IsNameIndex};
 ghost use Rattle.target_graph.specs.File.{bad_file, entries_of};
 ghost use Rattle.target_graph.specs.Listing.{GivesListing};
 ghost use Rattle.target_graph.specs.Names.{IsPlainName};
@@ -35,8 +35,8 @@ pub(crate) fn read_file(alloc: Global, file: &Held) -> Result<Listing, Workspace
 }
 
 fn text_of<'a>(alloc: Global, file: &'a Held) -> Result<&'a [u8], WorkspaceRefusal>
-    ensures { Looks result kinds.NoFile (λ name. (text_in file.now ≡ None) × (name ≡ [])) (λ text.
-        text_in file.now ≡ Some text.now) }
+    ensures { Looks result kinds.NoFile (λ name. (file_text file.now ≡ None) × (name ≡ [])) (λ text.
+        file_text file.now ≡ Some text.now) }
 {
     match file {
         Held::Text(text) => Ok(text.as_slice()),
@@ -45,7 +45,7 @@ fn text_of<'a>(alloc: Global, file: &'a Held) -> Result<&'a [u8], WorkspaceRefus
 }
 
 fn read_text(alloc: Global, text: &[u8]) -> Result<Listing, WorkspaceRefusal>
-    ensures { (held : Held) → text_in held ≡ Some text.now → Passed held 1 → GivesListing held result }
+    ensures { (held : Held) → file_text held ≡ Some text.now → Passed held 1 → GivesListing held result }
 {
     match json_of(alloc, text) {
         Ok(value) => read_value(alloc, &value),
@@ -82,7 +82,7 @@ fn value_of(alloc: Global, text: &[u8]) -> Result<Option<Value>, NoMemory>
 }
 
 fn read_value(alloc: Global, value: &Value) -> Result<Listing, WorkspaceRefusal>
-    ensures { (held : Held) → value_in held ≡ Some (view value.now) → Passed held 2 → GivesListing
+    ensures { (held : Held) → file_value held ≡ Some (view value.now) → Passed held 2 → GivesListing
         held result }
 {
     match entries_of(alloc, value) {
@@ -110,7 +110,7 @@ fn entries_of(alloc: Global, value: &Value) -> Result<Vec<Entry>, WorkspaceRefus
 }
 
 fn read_entries(alloc: Global, entries: Vec<Entry>) -> Result<Listing, WorkspaceRefusal>
-    ensures { (held : Held) → entries_in held ≡ entries.items → Passed held 3 → GivesListing held result }
+    ensures { (held : Held) → file_entries held ≡ entries.items → Passed held 3 → GivesListing held result }
 {
     match count(alloc, &entries) {
         Ok(()) => read_counted(alloc, entries),
@@ -120,7 +120,7 @@ fn read_entries(alloc: Global, entries: Vec<Entry>) -> Result<Listing, Workspace
 
 fn read_counted(alloc: Global, entries: Vec<Entry>) -> Result<Listing, WorkspaceRefusal>
     requires few { too_many entries.items ≡ None }
-    ensures { (held : Held) → entries_in held ≡ entries.items → Passed held 4 → GivesListing held result }
+    ensures { (held : Held) → file_entries held ≡ entries.items → Passed held 4 → GivesListing held result }
 {
     match index_names(alloc, &entries) {
         Ok(names) => read_named(alloc, names, entries),
@@ -134,8 +134,8 @@ fn read_named(
     entries: Vec<Entry>,
 ) -> Result<Listing, WorkspaceRefusal>
     requires few { too_many entries.items ≡ None }
-    requires index { IsIndex names.keys (names_of entries.items) }
-    ensures { (held : Held) → entries_in held ≡ entries.items → Passed held 5 → GivesListing held result }
+    requires index { IsNameIndex names.keys (names_of entries.items) }
+    ensures { (held : Held) → file_entries held ≡ entries.items → Passed held 5 → GivesListing held result }
 {
     match resolve(alloc, &names, entries) {
         Ok(targets) => Ok(Listing { names, targets }),

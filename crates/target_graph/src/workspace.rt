@@ -2,8 +2,8 @@ ghost use Rattle.std.specs.Prelude.{◌≡◌, ◌≢◌, ◌<◌, ◌≤◌, �
 ghost use Rattle.std.specs.List.{AllPairs, flat_map};
 ghost use Rattle.target_graph.specs.Address.{target_address, document_address, IsPlainAddress};
 ghost use Rattle.target_graph.specs.Closures.{AreClosures, lists};
-ghost use Rattle.target_graph.specs.Faults.{Accepted, IsRefusal, HasPlainName, Passed};
-ghost use Rattle.target_graph.specs.Kept.{IsSound};
+ghost use Rattle.target_graph.specs.Faults.{Accepted, IsRefusal, IsPlainRefusal, Passed};
+ghost use Rattle.target_graph.specs.Kept.{IsSoundListing};
 ghost use Rattle.target_graph.specs.Listing.{IsListing, Accepts};
 ghost use Rattle.target_graph.specs.Names.{is_name, is_path};
 ghost use Rattle.target_graph.specs.Walk.{AreClosed};
@@ -58,7 +58,7 @@ impl Workspace {
     pub fn read(alloc: Global, file: &Held, root: Root) -> Result<Workspace, WorkspaceRefusal>
         ensures accepted { IfOk result (Accepted file.now root) }
         ensures refused { IfErr result (IsRefusal file.now) }
-        ensures plain { IfErr result HasPlainName }
+        ensures plain { IfErr result IsPlainRefusal }
     {
         match read_file(alloc, file) {
             Ok(listing) => Workspace::of_listing(alloc, root, listing),
@@ -71,7 +71,7 @@ impl Workspace {
         root: Root,
         listing: Listing,
     ) -> Result<Workspace, WorkspaceRefusal>
-        requires { IsSound listing }
+        requires { IsSoundListing listing }
         ensures { (held : Held) → IsListing held listing → Accepts held root result }
     {
         match closures(alloc, listing.targets.as_slice()) {
@@ -86,7 +86,7 @@ impl Workspace {
         listing: Listing,
         closures: Vec<Vec<bool>>,
     ) -> Result<Workspace, WorkspaceRefusal>
-        requires sound { IsSound listing }
+        requires sound { IsSoundListing listing }
         requires closures { AreClosures listing.targets.items (lists closures) }
         ensures { (held : Held) → IsListing held listing → Passed held 7 → Accepts held root
             result }

@@ -1,6 +1,6 @@
 use Rattle.std.proofs.Common.{◌≡◌, List, [], ◌∷◌, ℕ, codes, sym, subst, ap, ◌∙◌}
 use Rattle.std.specs.Str.{IsUtf8}
-use Rattle.bsp_records.specs.ShortAnswers.{IsGraphicWithin}
+use Rattle.ob_text.specs.Ascii.{IsGraphicWithin}
 use Rattle.session_answers.proofs.Told.{address_text, address_short, name_text, name_short, tag_text, tag_short, language_text, language_short, only, only_one}
 use Rattle.session_law.specs.Questions.{tag_of}
 use Rattle.session_answers.proofs.targets.described.Goals as goal

@@ -3,6 +3,7 @@ use Rattle.std.specs.List.{All, list_any}
 use Rattle.std.proofs.lemmas.Str.{IsUtf8-from_ascii}
 use Rattle.bsp_records.specs.Short.{IsShortPublication}
 use Rattle.bsp_records.specs.declared.publishing.PublishDiagnosticsParams.{PublishDiagnosticsParams}
+use Rattle.ob_text.proofs.AsciiLaws.{graphic_ascii}
 use Rattle.ob_text.specs.Code.{severity_of}
 use Rattle.ob_text.specs.declared.diagnostic.Diagnostic.{Diagnostic}
 use Rattle.oberon_check.specs.Diagnosed.{Diagnosed}
@@ -15,10 +16,10 @@ use Rattle.task_stream.specs.Showing.{shows}
 use Rattle.session_build.proofs.publishing.publish_one.Goals as goal
 
 pub publish-requires-clause-document : goal.publish-requires-clause-document
-publish-requires-clause-document c = IsUtf8-from_ascii c.args.place.now.address.document c.requires.plain.document.ascii
+publish-requires-clause-document c = IsUtf8-from_ascii c.args.place.now.address.document (graphic_ascii c.args.place.now.address.document c.requires.plain.document.graphic)
 
 pub publish-requires-clause-target : goal.publish-requires-clause-target
-publish-requires-clause-target c = IsUtf8-from_ascii c.args.place.now.address.target c.requires.plain.target.ascii
+publish-requires-clause-target c = IsUtf8-from_ascii c.args.place.now.address.target (graphic_ascii c.args.place.now.address.target c.requires.plain.target.graphic)
 
 pub say_all-requires-clause-short : goal.say_all-requires-clause-short
 say_all-requires-clause-short c =

@@ -4,7 +4,7 @@ use Rattle.std.specs.Str.{bytes_eq}
 use Rattle.std.proofs.lemmas.List.{map_more, take_all}
 use Rattle.target_graph.specs.declared.entry.Entry.{Entry}
 use Rattle.target_graph.specs.declared.fault.FaultKind.TheVariants as kinds
-use Rattle.target_graph.specs.Faults.{names_of, IsFirstRepeat, IsAbout, IsIndex}
+use Rattle.target_graph.specs.Faults.{names_of, IsFirstRepeat, IsAbout, IsNameIndex}
 use Rattle.target_graph.proofs.Listed.{any_listed, none_listed, distinct_more, no_repeat, repeat_at}
 use Rattle.target_graph.proofs.Steps.{found}
 use Rattle.target_graph.proofs.TurnedTests.{from_not, from_not_true}
@@ -48,5 +48,5 @@ pub returns : goal.returns
 returns c =
     let entries = c.args.entries.now in
     let all = ap names_of (take_all c.loop-entry.entry-index entries c.loop-entry-test.false) in
-    let index : IsIndex c.loop-entry.names.keys (names_of entries) = subst (λ names. IsIndex c.loop-entry.names.keys names) all c.loop-entry.invariant in
+    let index : IsNameIndex c.loop-entry.names.keys (names_of entries) = subst (λ names. IsNameIndex c.loop-entry.names.keys names) all c.loop-entry.invariant in
     (index, λ name. no_repeat (names_of entries) name index.distinct)

@@ -1,7 +1,7 @@
 use Rattle.std.proofs.Common.{ℕ, List, ap, sym, subst, ◌∙◌, arith}
 use Rattle.target_graph.specs.declared.entry.Entry.{Entry}
 use Rattle.target_graph.specs.declared.fault.FaultKind.TheVariants as kinds
-use Rattle.target_graph.specs.Faults.{names_of, dependencies_of, too_many, IsFirstUnknown, IsIndex, IsResolved}
+use Rattle.target_graph.specs.Faults.{names_of, dependencies_of, too_many, IsFirstUnknown, IsNameIndex, IsResolved}
 use Rattle.target_graph.proofs.Refusals.{passed_more}
 use Rattle.target_graph.proofs.PlainFaults.{refuses}
 use Rattle.target_graph.proofs.reading.read_named.Goals as goal
@@ -12,7 +12,7 @@ returns-in-Ok c =
     let keys = c.args.names.keys in
     record {
       few = ap too_many e ∙ c.requires.few;
-      index = subst (λ (es : List Entry). IsIndex keys (names_of es)) (sym e) c.requires.index;
+      index = subst (λ (es : List Entry). IsNameIndex keys (names_of es)) (sym e) c.requires.index;
       resolved = subst (λ (es : List Entry). IsResolved keys es c.in-Ok.targets.items) (sym e) c.in-Ok.ensures.0;
       passed = passed_more held kinds.UnknownDependency p
           (λ name f. c.in-Ok.ensures.1 name

@@ -1,1 +1,0 @@
-pub use json_shape::BadValue as BadParams;
