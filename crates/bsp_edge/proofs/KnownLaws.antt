@@ -1,7 +1,7 @@
 -- How takes of bytes that are known to be left join.
 use Rattle.std.proofs.Common.{◌≡◌, ℕ, ◌+◌, ◌<◌, List, [], ◌++◌, length, Option, Some, None, refl, sym, ap, ◌∙◌, append_assoc, length-append, arith}
 use Rattle.std.specs.Prelude.{IfSome}
-use Rattle.std.specs.Io.KnownBytes.{Consumes, IsAtEnd, Keeps}
+use Rattle.std.specs.Io.KnownBytes.{Appends, Consumes, IsAtEnd, Keeps}
 use Rattle.std.proofs.lemmas.Bool.{cond-true, lt-ltb}
 use Rattle.std.proofs.lemmas.List.{append-nil}
 use Rattle.ob_text.specs.declared.held.Held.{Held}
@@ -23,6 +23,18 @@ keeps_consumes None b c bytes first second = tt
 keeps_consumes (Some xs) None c bytes first second = absurd first
 keeps_consumes (Some xs) (Some ys) None bytes first second = absurd second
 keeps_consumes (Some xs) (Some ys) (Some zs) bytes first second = sym first ∙ second
+
+pub keeps_appends : (a b c : Option (List ℕ)) (bytes : List ℕ) → Keeps a b → Appends b c bytes → Appends a c bytes
+keeps_appends None b c bytes first second = tt
+keeps_appends (Some xs) None c bytes first second = absurd first
+keeps_appends (Some xs) (Some ys) None bytes first second = absurd second
+keeps_appends (Some xs) (Some ys) (Some zs) bytes first second = second ∙ ap (λ held. held ++ bytes) first
+
+-- to add nothing changes nothing
+pub appends_nothing : (a b : Option (List ℕ)) → Appends a b [] → Keeps a b
+appends_nothing None b added = tt
+appends_nothing (Some xs) None added = absurd added
+appends_nothing (Some xs) (Some ys) added = added ∙ append-nil xs
 
 -- to take nothing and be at the end is to have been there
 pub keeps_end : (a b c : Option (List ℕ)) → Keeps a b → Consumes b c [] → IsAtEnd c → IsAtEnd a

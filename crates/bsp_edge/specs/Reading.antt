@@ -1,7 +1,7 @@
 -- What one call of a source does, by its answer.
 use Rattle.std.specs.Prelude.{◌≡◌, ℕ, ◌<◌, ◌≤◌, List, length, take, Option, Some, None, IsSomeAnd}
 use Rattle.std.specs.Option.{option_map}
-use Rattle.std.specs.Io.KnownBytes.{Consumes, IsAtEnd}
+use Rattle.std.specs.Io.KnownBytes.{Consumes, IsAtEnd, Keeps}
 use Rattle.bsp_edge.specs.declared.reading.Got.{Got}
 use Rattle.bsp_edge.specs.declared.reading.Got.TheVariants.{Bytes, End, Quiet, Failed}
 use Rattle.bsp_edge.specs.Course.{Course, moved, UsesPoll}
@@ -57,4 +57,4 @@ abbrev pub TookKnown : Option (List ℕ) → Option (List ℕ) → List ℕ → 
 TookKnown old new into (Bytes count) = Consumes old new (take count into)
 TookKnown old new into End = IsAtEnd old
 TookKnown old new into Quiet = Unit {0}
-TookKnown old new into Failed = Unit {0}
+TookKnown old new into Failed = Keeps old new

@@ -1,5 +1,6 @@
 -- What one call of a sink does, by its answer.
 use Rattle.std.specs.Prelude.{◌≡◌, ℕ, ◌<◌, ◌≤◌, List, length, take, Option}
+use Rattle.std.specs.Io.KnownBytes.{Appends, Keeps}
 use Rattle.bsp_edge.specs.declared.writing.Put.{Put}
 use Rattle.bsp_edge.specs.declared.writing.Put.TheVariants.{Took, Failed}
 use Rattle.bsp_edge.specs.Faults.{Rose}
@@ -20,6 +21,11 @@ WriteGives old new piece Failed = new ≡ old
 abbrev pub WriteFaults : ℕ → ℕ → Put → Type 0
 WriteFaults before after (Took count) = after ≡ before
 WriteFaults before after Failed = Rose before after
+
+-- what becomes of the bytes that are known to be given
+abbrev pub GaveKnown : Option (List ℕ) → Option (List ℕ) → List ℕ → Put → Type 0
+GaveKnown old new piece (Took count) = Appends old new (take count piece)
+GaveKnown old new piece Failed = Keeps old new
 
 -- what was taken of the piece isn't empty
 abbrev pub TookWithin : List ℕ → Put → Type 0

@@ -1,5 +1,7 @@
-ghost use Rattle.std.specs.Prelude.{◌≡◌, ◌<◌, None, length, vec_len, IfOk};
+ghost use Rattle.std.specs.Prelude.{◌≡◌, ◌≢◌, ◌<◌, None, Ok, Err, length, vec_len, IfOk, IsErrOf};
 ghost use Rattle.std.specs.List.{All};
+ghost use Rattle.std.specs.Path.{path_buf_bytes, path_join};
+ghost use Rattle.std.specs.Str.{IsUtf8};
 ghost use Rattle.ob_text.specs.Held.{IsReadable};
 ghost use Rattle.bsp_edge.specs.Handing.{HandFaults, HandsOut, paths_of};
 
@@ -100,7 +102,11 @@ impl<R: Files> Tree for FolderTree<R> {
 
 /// No entry, or a parent that is no folder, is Absent.
 fn absent_where_missing(kind: ErrorKind) -> Result<Held, TreeFault>
-    ensures { IfOk result IsReadable }
+    ensures missing { kind ≡ ErrorKind.NotFound → result ≡ Ok Held.Absent }
+    ensures no_folder { kind ≡ ErrorKind.NotADirectory → result ≡ Ok Held.Absent }
+    ensures failed { kind ≢ ErrorKind.NotFound → kind ≢ ErrorKind.NotADirectory
+        → result ≡ Err TreeFault.Failed }
+    ensures readable { IfOk result IsReadable }
 {
     match kind {
         ErrorKind::NotFound | ErrorKind::NotADirectory => Ok(Held::Absent),
@@ -109,7 +115,10 @@ fn absent_where_missing(kind: ErrorKind) -> Result<Held, TreeFault>
 }
 
 /// The name of a file below a folder. Only a name of UTF-8 can be read.
-fn name_of(alloc: Global, folder: &[u8], file: &[u8]) -> Result<PathBuf, TreeFault> {
+fn name_of(alloc: Global, folder: &[u8], file: &[u8]) -> Result<PathBuf, TreeFault>
+    ensures joined { IfOk result (λ name. path_buf_bytes name ≡ path_join folder.now file.now) }
+    ensures failed { IsErrOf result TreeFault.Failed → IsUtf8 folder.now → ¬ (IsUtf8 file.now) }
+{
     let Ok(folder) = str::from_utf8(folder) else {
         return Err(TreeFault::Failed);
     };

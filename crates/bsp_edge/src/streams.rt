@@ -1,6 +1,6 @@
 ghost use Rattle.std.specs.Prelude.{◌≡◌, ◌≢◌, ◌<◌, None, length};
 ghost use Rattle.bsp_edge.specs.Reading.{ReadFaults, ReadLeaves, ReadMoves};
-ghost use Rattle.bsp_edge.specs.Writing.{WriteFaults, WriteGives, TookWithin};
+ghost use Rattle.bsp_edge.specs.Writing.{GaveKnown, WriteFaults, WriteGives, TookWithin};
 ghost use Rattle.bsp_edge.specs.Reading.{TookInto, TookKnown};
 
 use crate::reading::{Got, Source};
@@ -146,7 +146,8 @@ impl<R: Files + Print> Sink for RealSink<R> {
 
 /// Writes from the front of a piece, again where a signal interrupts the call, 64 times at the most.
 pub fn write_piece<W: Write>(output: &mut W, piece: &[u8]) -> Put
-    ensures { TookWithin piece.now result }
+    ensures took { TookWithin piece.now result }
+    ensures known { GaveKnown (W.contents output.old) (W.contents output.new) piece.now result }
 {
     for _ in 0..TRIES {
         match output.write(piece) {
