@@ -1,0 +1,11 @@
+pub mod ArrayLaws
+pub mod FoldingLaws
+pub mod FoldingMemory
+pub mod HeadingLaws
+pub mod ListLaws
+pub mod OriginLaws
+pub mod ProcedureLaws
+pub mod RecordLaws
+pub mod RecordSteps
+pub mod SaidLaws
+pub mod TypeLaws

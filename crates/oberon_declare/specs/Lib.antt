@@ -1,0 +1,7 @@
+pub mod Arrays
+pub mod Foldings
+pub mod Headings
+pub mod Levels
+pub mod Origins
+pub mod Records
+pub mod Variables
