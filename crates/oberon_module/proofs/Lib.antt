@@ -1,8 +1,11 @@
 pub mod ExportLaws
 pub mod ImportLaws
 pub mod JudgeLaws
+pub mod ListedRows
 pub mod NumberLaws
+pub mod PlaceLaws
 pub mod RowLaws
 pub mod RowLists
 pub mod RowOrder
+pub mod ShownRows
 pub mod WrittenLaws
