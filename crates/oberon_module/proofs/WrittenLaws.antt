@@ -1,13 +1,16 @@
 -- Types as views have them, over the types in memory.
-use Rattle.std.specs.Prelude.{ℕ, ◌≡◌, ◌+◌, ◌-◌, Bool, true, false, List, [], ◌∷◌, ◌++◌, if◌then◌else◌, refl}
+use Rattle.std.specs.Prelude.{ℕ, ◌≡◌, ◌+◌, ◌-◌, Bool, true, false, List, [], ◌∷◌, ◌++◌, Option, if◌then◌else◌, refl}
 use Rattle.std.proofs.Common.{ap, sym, ◌∙◌, arith}
+use Rattle.std.specs.declared.alloc.Global.{Global}
+use Rattle.std.specs.declared.vec.Vec.{Vec}
+use Rattle.std.specs.declared.sync.Arc.{Arc}
 use Rattle.oberon_types.specs.declared.origin.Origin.{Origin}
 use Rattle.oberon_types.specs.declared.ty.Field.{Field}
-use Rattle.oberon_types.specs.declared.ty.RecordTy.{RecordTy, out-RecordTy}
+use Rattle.oberon_types.specs.declared.ty.RecordTy.{RecordTy, roll-RecordTy, out-RecordTy}
 use Rattle.oberon_types.specs.Memory.{plain_ty, plain_record, base_option, fields_list}
 use Rattle.oberon_types.specs.Sizes.{size_of_record, weight, weight_of_record, weight_of_base, weight_of_fields}
 use Rattle.oberon_types.specs.Types.{TyTree, RecordTree, record_of, origin_of, BaseTree, FieldsTree, no_fields, more_fields}
-use Rattle.oberon_types.proofs.TypeMemory.{record_out}
+use Rattle.oberon_types.proofs.TypeMemory.{record_made, record_out}
 use Rattle.oberon_rules.specs.Views.{written, kept_fields}
 use Rattle.oberon_module.specs.Written.{written_record, written_base, written_fields, fields_then, weight_of_field, weight_of_written}
 
@@ -65,3 +68,19 @@ record_weighs x fs left behind over items e f =
     ∙ left_over left b (weight_of_written gs)
     ∙ ap (λ n. left - (1 + b + n)) (sym (fields_weigh (out-RecordTy x).origin gs))
     ∙ ap (λ w. left - w) (sym (ap (λ (r : RecordTree). weight_of_record [] (written_record r)) (record_out x)))
+
+-- ---- what is made
+
+size_out : (x : RecordTy) → (out-RecordTy x).size ≡ size_of_record (plain_record x)
+size_out x = sym (ap size_of_record (record_out x))
+
+pub remade_is : (x made : RecordTy) (o : Origin) (b : Option (Arc RecordTy Global)) (fs : Vec Field Global) → made ≡ roll-RecordTy (record { origin = o; base = b; fields = fs; size = (out-RecordTy x).size }) → o ≡ (out-RecordTy x).origin → plain_record made ≡ record_of (origin_of (plain_record x)) (base_option b) (fields_list fs.items) (size_of_record (plain_record x))
+remade_is x made o b fs new e =
+    ap plain_record new
+    ∙ record_made o b fs (out-RecordTy x).size
+    ∙ ap (λ (o : Origin). record_of o (base_option b) (fields_list fs.items) (out-RecordTy x).size) (e ∙ origin_out x)
+    ∙ ap (record_of (origin_of (plain_record x)) (base_option b) (fields_list fs.items)) (size_out x)
+
+pub kept_when : (b : Bool) (name m : List ℕ) (t u : TyTree) (rest : FieldsTree) → b ≡ true → name ≡ m → t ≡ u → more_fields name true t rest ≡ (if b then more_fields m b u rest else rest)
+kept_when true name m t u rest h e f = ap (λ (k : List ℕ). more_fields k true t rest) e ∙ ap (λ (v : TyTree). more_fields m true v rest) f
+kept_when false name m t u rest h e f = absurd cc

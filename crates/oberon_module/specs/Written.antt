@@ -1,5 +1,7 @@
 -- Types, records and fields as views have them, and what they weigh.
-use Rattle.std.specs.Prelude.{ℕ, ◌+◌, Bool, if◌then◌else◌, List, []}
+use Rattle.std.specs.Prelude.{ℕ, ◌+◌, Bool, if◌then◌else◌, List, [], Option, Some, None}
+use Rattle.oberon_types.specs.declared.ty.Field.{Field}
+use Rattle.oberon_types.specs.Memory.{plain_ty}
 use Rattle.oberon_types.specs.Types.{TyTree, RecordTree, BaseTree, FieldsTree, no_fields, more_fields}
 use Rattle.oberon_types.specs.Sizes.{weight}
 use Rattle.oberon_rules.specs.Views.{written, kept_record, kept_base}
@@ -19,6 +21,11 @@ written_fields (more_fields name exported t fs) = if exported then more_fields n
 abbrev pub fields_then : FieldsTree → FieldsTree → FieldsTree
 fields_then no_fields gs = gs
 fields_then (more_fields name exported t fs) gs = more_fields name exported t (fields_then fs gs)
+
+-- a field, if there is one, and then others
+abbrev pub field_then : Option Field → FieldsTree → FieldsTree
+field_then None gs = gs
+field_then (Some f) gs = more_fields f.name f.exported (plain_ty f.ty) gs
 
 -- what a field weighs, and what fields weigh
 abbrev pub weight_of_field : Bool → TyTree → ℕ

@@ -3,7 +3,7 @@ ghost use Rattle.oberon_types.specs.Memory.{plain_ty, plain_record, base_option,
 ghost use Rattle.oberon_types.specs.Sizes.{size_of_record, weight, weight_of_record, weight_of_base};
 ghost use Rattle.oberon_types.specs.Types.{record_of, origin_of, more_fields, FieldsTree};
 ghost use Rattle.oberon_rules.specs.Views.{written};
-ghost use Rattle.oberon_module.specs.Written.{written_record, written_base, written_fields, weight_of_field, weight_of_written, fields_then};
+ghost use Rattle.oberon_module.specs.Written.{written_record, written_base, written_fields, weight_of_field, weight_of_written, fields_then, field_then};
 
 use ob_text::NoMemory;
 use oberon_declare::copy_origin;
@@ -88,26 +88,36 @@ fn written_fields(alloc: Global, fields: &[Field]) -> Result<Vec<Field>, NoMemor
 {
     let mut kept = Vec::new(alloc);
     for field in fields {
-        keep(alloc, &mut kept, field)?;
+        let shown = written_field(alloc, field)?;
+        add_shown(&mut kept, shown)?;
     }
     Ok(kept)
 }
 
-/// Adds a field that is exported.
+/// The field as a view has it, if it is exported.
 #[cycle(written)]
-fn keep(alloc: Global, kept: &mut Vec<Field>, field: &Field) -> Result<(), NoMemory>
-    ensures { OnOk result ((rest : FieldsTree) → fields_then (fields_list kept.new.items) (written_fields rest)
-        ≡ fields_then (fields_list kept.old.items) (written_fields (more_fields field.now.name field.now.exported (plain_ty field.now.ty) rest))) }
+fn written_field(alloc: Global, field: &Field) -> Result<Option<Field>, NoMemory>
+    ensures { IfOk result (λ shown. (rest : FieldsTree) → field_then shown (written_fields rest)
+        ≡ written_fields (more_fields field.now.name field.now.exported (plain_ty field.now.ty) rest)) }
 {
     if !field.exported {
-        return Ok(());
+        return Ok(None);
     }
     let ty = written(alloc, &field.ty)?;
-    kept.push(Field {
+    Ok(Some(Field {
         name: field.name.copy(alloc)?,
         exported: true,
         ty,
-    })?;
+    }))
+}
+
+fn add_shown(kept: &mut Vec<Field>, shown: Option<Field>) -> Result<(), NoMemory>
+    ensures { OnOk result ((rest : FieldsTree) → fields_then (fields_list kept.new.items) rest
+        ≡ fields_then (fields_list kept.old.items) (field_then shown rest)) }
+{
+    if let Some(field) = shown {
+        kept.push(field)?;
+    }
     Ok(())
 }
 
