@@ -1,6 +1,6 @@
 use Rattle.std.proofs.Common.{ℕ, ◌<◌, [], length, arith}
 use Rattle.std.proofs.lemmas.List.Elements.{All-nil, All-cons}
-use Rattle.protocol_tests.proofs.workspaces.closes_targets.Goals as goal
+use Rattle.workspace_tests.proofs.questions.closes_targets.Goals as goal
 
 pub closure-requires : goal.closure-requires
 closure-requires g c =
