@@ -1,7 +1,8 @@
 ghost use Rattle.std.specs.Prelude.{◌≡◌, ◌∷◌, ◌≤◌, ℕ, List, [], None, vec_len, IfOk, OnOk, OnErr, IsErrOf};
 ghost use Rattle.bsp_edge.specs.Faults.{Rose};
 ghost use Rattle.rpc_frame.specs.Limits.{content_limit};
-ghost use Rattle.rpc_peer.specs.Said.{body_of, said};
+ghost use Rattle.rpc_peer.specs.Said.{body_of};
+ghost use Rattle.session_build.specs.Outgoing.{outgoing_said};
 ghost use Rattle.session_law.specs.IsFramed.{IsFramed, text_of};
 ghost use Rattle.session_law.specs.Order.{Event, take, ends, hand};
 ghost use Rattle.session_core.specs.Standing.{StandsFor, Awaits, IsAlive, IsFree, IsQuiet, NeedsNothing, NeedsWhatItAwaits, Suits, status_of};
@@ -15,7 +16,7 @@ use crate::writing::{SinkFailed, write_all};
 use bsp_edge::{Sink, Tree, TreeFault};
 use ob_text::{Items, NoMemory, Path, Snapshot};
 use rpc_frame::frame_into;
-use rpc_peer::{Message, write_message};
+use session_build::Outgoing;
 use session_core::{Core, Need};
 use session_law::InputEnd;
 use std::alloc::Global;
@@ -213,12 +214,12 @@ impl Responder {
 }
 
 // The body of a message, which is used up.
-fn body(alloc: Global, message: Message) -> Result<Vec<u8>, NoMemory>
-    requires { IsFramed (said message) }
-    ensures text { IfOk result (λ b. b.items ≡ body_of (said message)) }
+fn body(alloc: Global, message: Outgoing) -> Result<Vec<u8>, NoMemory>
+    requires { IsFramed (outgoing_said message) }
+    ensures text { IfOk result (λ b. b.items ≡ body_of (outgoing_said message)) }
     ensures fits { IfOk result (λ b. vec_len b ≤ content_limit) }
 {
-    write_message(alloc, &message)
+    message.into_body(alloc)
 }
 
 /// Writes a message as a frame. `frame` is room for it, which each message uses anew.
@@ -227,10 +228,10 @@ fn send<K: Sink>(
     alloc: Global,
     output: &mut K,
     frame: &mut Vec<u8>,
-    message: Message,
+    message: Outgoing,
 ) -> Result<(), Stop>
-    requires { IsFramed (said message) }
-    ensures sends { Sends (K.given output.old) (K.given output.new) (text_of (said message)) result }
+    requires { IsFramed (outgoing_said message) }
+    ensures sends { Sends (K.given output.old) (K.given output.new) (text_of (outgoing_said message)) result }
     ensures sink { IsErrOf result Stop.Sink → Rose (K.faults output.old) (K.faults output.new) }
     ensures same { (IsErrOf result Stop.Sink → ⊥) → K.faults output.new ≡ K.faults output.old }
 {

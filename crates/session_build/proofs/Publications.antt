@@ -15,7 +15,9 @@ use Rattle.serde_json.proofs.OnLiterals.{serde_json_on_literals}
 use Rattle.bsp_records.specs.Diagnostics.{publish_diagnostics_params_data}
 use Rattle.json_shape.specs.Shapes.{IsTextWithin}
 use Rattle.ob_text.specs.Ascii.{IsWithin}
-use Rattle.bsp_records.specs.Short.{publication_limit}
+use Rattle.bsp_records.proofs.PublicationLaws.{publication_exact}
+use Rattle.bsp_records.proofs.ShortLaws.{publication_short}
+use Rattle.bsp_records.specs.Short.{IsShortPublication, publication_limit}
 use Rattle.bsp_records.specs.Shown.{shown}
 use Rattle.bsp_records.specs.Table as tables
 use Rattle.bsp_records.specs.Table.{Table, is_about, published}
@@ -213,7 +215,7 @@ notice_short : (params : Data) → length (body_of (notification (codes "build/p
 unfolding body_of serde_json_on_literals
 notice_short params = let l = length-append (compact_text params) (members_text true no_members) in omega (arith, l)
 
-pub framed_publication : (p : PublishDiagnosticsParams) → has_float (publish_diagnostics_params_data p) ≡ false
+framed_publication : (p : PublishDiagnosticsParams) → has_float (publish_diagnostics_params_data p) ≡ false
     → length (compact_text (publish_diagnostics_params_data p)) ≤ publication_limit → IsFramed (publication_said p)
 unfolding lib.Utf8.encode
 framed_publication p exact short = record {
@@ -222,3 +224,11 @@ framed_publication p exact short = record {
   exact = rw exact refl;
   fits = (let whole = notice_short (publish_diagnostics_params_data p) in omega (arith, whole, short));
 }
+
+-- each publication that is short is a message of the server
+pub all_framed : (ps : List PublishDiagnosticsParams) → All IsShortPublication ps → All IsFramed (map publication_said ps)
+all_framed [] all = All-nil IsFramed
+all_framed (p ∷ ps) all =
+    All-cons IsFramed (publication_said p) (map publication_said ps)
+    (framed_publication p (publication_exact p) (publication_short p (All-head IsShortPublication p ps all)))
+    (all_framed ps (All-tail IsShortPublication p ps all))

@@ -1,3 +1,4 @@
+pub mod Outgoing
 pub mod Placed
 pub mod Publishing
 pub mod Handed

@@ -6,9 +6,10 @@ use Rattle.json_shape.specs.Shapes.{IsTextWithin}
 use Rattle.bsp_records.specs.Limits.{origin_limit}
 use Rattle.ob_text.specs.declared.held.Snapshot.{Snapshot}
 use Rattle.rpc_peer.specs.declared.message.Id.{Id}
-use Rattle.rpc_peer.specs.Said.{Said, said, request, notification, result, failure, IsId}
+use Rattle.rpc_peer.specs.Said.{Said, request, notification, result, failure, IsId}
 use Rattle.rpc_peer.specs.Meaning.{parse_error}
 use Rattle.session_build.specs.Publishing.{IsPublished}
+use Rattle.session_build.specs.Outgoing.{outgoing_said}
 use Rattle.session_law.specs.Builds.{build_said}
 use Rattle.session_law.specs.IsFramed.{IsFramed}
 use Rattle.session_law.specs.Methods.{Verdict, asking, unreadable, verdict, due_in, is_named, null_message}
@@ -35,7 +36,7 @@ answer_unread code = failure None code (null_message code)
 
 -- a core goes from one state to the next, and queues these messages
 pub record Steps (old new : Core) (state : State) (messages : List Said) : Type 0 where
-  pub queued : map said new.out.items ≡ map said old.out.items ++ messages
+  pub queued : map outgoing_said new.out.items ≡ map outgoing_said old.out.items ++ messages
   pub state_is : state_of new ≡ state
   pub alive : new.dead ≡ old.dead
 

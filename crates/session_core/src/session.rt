@@ -12,7 +12,7 @@ use crate::verdicts::{Answer, Owed, Queued, Reason, TakenUp};
 use ob_text::{Held, NoMemory, Snapshot, Text};
 use rpc_peer::{Id, Message, Refusal, read_message};
 use serde_json::Value;
-use session_build::{Published, paths_of, publish_all};
+use session_build::{Outgoing, Published, paths_of, publish_all};
 use session_law::InputEnd;
 use std::alloc::Global;
 use std::collections::VecDeque;
@@ -27,7 +27,7 @@ const EXIT: &[u8] = b"build/exit";
 #[derive(Drop)]
 pub struct Core {
     alloc: Global,
-    out: VecDeque<Message>,
+    out: VecDeque<Outgoing>,
     // The workspace in force, once an initialize was answered with a result.
     workspace: Option<Workspace>,
     // A shutdown was answered with a result.
@@ -46,6 +46,7 @@ impl Core {
     ghost use Rattle.std.specs.Prelude.{◌≡◌, ◌<◌, [], ◌∷◌, ◌↔◌, List, None, Ok, IsTrue, IsSome, IfSome, IfNone, OnOk, OnErr, option_map};
     ghost use Rattle.rpc_peer.specs.Meaning.{meaning};
     ghost use Rattle.rpc_peer.specs.Said.{said, HasId, IsId};
+    ghost use Rattle.session_build.specs.Outgoing.{outgoing_said};
     ghost use Rattle.session_law.specs.IsFramed.{IsFramed};
     ghost use Rattle.session_law.specs.Methods.{asking, due_in, taken_in, unreadable, verdict};
     ghost use Rattle.session_law.specs.Order.{Event, take, ends, hand, write};
@@ -128,11 +129,11 @@ impl Core {
     }
 
     /// The next message to write.
-    pub fn next_out(&mut self) -> Option<Message>
+    pub fn next_out(&mut self) -> Option<Outgoing>
         ensures stands { IfSome result (λ m. (order : List Event) → StandsFor self.old order
-            → StandsFor self.new (write (said m) ∷ order)) }
+            → StandsFor self.new (write (outgoing_said m) ∷ order)) }
         ensures framed { (order : List Event) → StandsFor self.old order
-            → IfSome result (λ m. IsFramed (said m)) }
+            → IfSome result (λ m. IsFramed (outgoing_said m)) }
         ensures fewer { IfSome result (λ _. left_to_write self.new < left_to_write self.old) }
         ensures none { IfNone result (IsQuiet self.old × IsQuiet self.new) }
         ensures keeps { IfNone result ((order : List Event) → StandsFor self.old order
@@ -295,7 +296,7 @@ impl Core {
         ensures status { self.new.status ≡ self.old.status }
         ensures err { OnErr result (self.new.out.items ≡ self.old.out.items) }
     {
-        self.out.push_back(message)?;
+        self.out.push_back(Outgoing::Message(message))?;
         Ok(())
     }
 
@@ -376,7 +377,8 @@ impl Core {
         let published = publish_all(self.alloc, &mut self.shown, places, origin, snapshot)?;
         let Published { messages, failed } = published;
         let mut messages = messages;
-        messages.push_back(compiled(self.alloc, id, origin, failed)?)?;
+        let answer = compiled(self.alloc, id, origin, failed)?;
+        messages.push_back(Outgoing::Message(answer))?;
         self.out = messages;
         Ok(())
     }
