@@ -1,4 +1,4 @@
 pub mod RoundTrip
 pub mod HandedLaws
 pub mod Publications
-pub mod Placing
+pub mod DocumentLaws

@@ -1,4 +1,4 @@
 pub mod Outgoing
-pub mod Placed
+pub mod Documents
 pub mod Publishing
 pub mod Handed

@@ -7,9 +7,9 @@
 
 mod handed;
 mod outgoing;
-mod places;
+mod documents;
 mod publishing;
 
 pub use outgoing::Outgoing;
-pub use places::{paths_of, places_of};
+pub use documents::{paths_of, documents_of};
 pub use publishing::{Published, publish_all};

@@ -9,7 +9,7 @@ ghost use Rattle.oberon_check.specs.Diagnosed.{Diagnosed};
 ghost use Rattle.session_law.specs.Builds.{is_error_severity, publication_said};
 ghost use Rattle.session_build.specs.Outgoing.{outgoing_said};
 ghost use Rattle.session_build.specs.Handed.{held_or_absent};
-ghost use Rattle.session_build.specs.Placed.{HasPlainAddress};
+ghost use Rattle.session_build.specs.Documents.{HasPlainAddress};
 ghost use Rattle.session_build.specs.Publishing.{IsPublished, IsPublishedOne};
 ghost use Rattle.task_stream.specs.Showing.{shows};
 
@@ -17,7 +17,7 @@ use crate::handed::{held_in, index_of};
 use crate::outgoing::Outgoing;
 use ob_text::{Diagnostic, Held, NoMemory, Severity, Snapshot, Text};
 use oberon_check::diagnose;
-use session_law::Place;
+use session_law::BuildDocument;
 use std::alloc::Global;
 use std::collections::VecDeque;
 use std::sync::Arc;
@@ -34,15 +34,15 @@ pub struct Published {
 pub fn publish_all(
     alloc: Global,
     shown: &mut Shown,
-    places: &[Place],
+    documents: &[BuildDocument],
     origin: &Option<Text>,
     snapshot: &Snapshot,
 ) -> Result<Published, NoMemory>
-    requires plain { All HasPlainAddress places.now }
-    requires distinct { AllPairs ◌≢◌ (map (λ place. place.address) places.now) }
+    requires plain { All HasPlainAddress documents.now }
+    requires distinct { AllPairs ◌≢◌ (map (λ document. document.address) documents.now) }
     requires origin { IfSome origin.now (IsTextWithin origin_limit) }
     requires texts { All (λ entry. IsReadable entry.1) snapshot.now.entries }
-    ensures published { IfOk result (λ p. IsPublished (shows shown.old) (shows shown.new) places.now
+    ensures published { IfOk result (λ p. IsPublished (shows shown.old) (shows shown.new) documents.now
         origin.now snapshot.now.entries (map outgoing_said p.messages.items) p.failed) }
 {
     let entries = snapshot.entries.as_slice();
@@ -50,9 +50,9 @@ pub fn publish_all(
     let mut messages = VecDeque::new(alloc);
     let mut failed = false;
     let own = shared(alloc, origin)?;
-    for place in places {
-        let held = held_in(entries, &index, &place.path);
-        let has_error = publish_one(alloc, shown, place, &own, held, &mut messages)?;
+    for document in documents {
+        let held = held_in(entries, &index, &document.path);
+        let has_error = publish_one(alloc, shown, document, &own, held, &mut messages)?;
         failed = failed || has_error;
     }
     Ok(Published { messages, failed })
@@ -73,21 +73,21 @@ fn shared(alloc: Global, origin: &Option<Text>) -> Result<Arc<Option<Text>>, NoM
 fn publish_one(
     alloc: Global,
     shown: &mut Shown,
-    place: &Place,
+    document: &BuildDocument,
     origin: &Arc<Option<Text>>,
     held: Option<&Held>,
     messages: &mut VecDeque<Outgoing>,
 ) -> Result<bool, NoMemory>
-    requires plain { HasPlainAddress place.now }
+    requires plain { HasPlainAddress document.now }
     requires origin { IfSome origin.now.value (IsTextWithin origin_limit) }
     requires readable { IfSome held (λ held. IsReadable held.now) }
-    ensures { IfOk result (IsPublishedOne (shows shown.old) (shows shown.new) place.now origin.now.value
+    ensures { IfOk result (IsPublishedOne (shows shown.old) (shows shown.new) document.now origin.now.value
         (held_or_absent held.entry) (map outgoing_said messages.old.items)
         (map outgoing_said messages.new.items)) }
 {
     let list = diagnose_held(alloc, held)?;
     let failed = has_error(list.as_slice());
-    let pieces = shown.publish(&place.address, origin, list)?;
+    let pieces = shown.publish(&document.address, origin, list)?;
     say_all(pieces, messages)?;
     Ok(failed)
 }

@@ -8,7 +8,7 @@ use Rattle.rpc_peer.specs.Said.{Said, request, notification, result, failure, Is
 use Rattle.session_build.specs.Outgoing.{outgoing_said}
 use Rattle.session_law.specs.declared.InputEnd.TheVariants.{Border, Damaged, Failed}
 use Rattle.session_law.specs.declared.InputEnd.{InputEnd}
-use Rattle.session_law.specs.Builds.{ArePlaces, CleanBuild, build_answer, build_said, table_with}
+use Rattle.session_law.specs.Builds.{AreDocuments, CleanBuild, build_answer, build_said, table_with}
 use Rattle.session_law.specs.AnswersAtOnce.{IsCaughtUp}
 use Rattle.session_law.specs.IsFramed.{IsFramed}
 use Rattle.session_law.specs.Lawful.{Lawful, EachAllowed}
@@ -280,11 +280,11 @@ module _ (old new : Core) (order : List Event) (quiet : old.out.items ≡ []) (a
 
     -- a build is published and answered
     built_on : (id : Id) (space : Space) (plan : Plan) (entries : Entries) → handed_of got ≡ Some entries → asked_by old.workspace old.awaiting ≡ owed id (building (build_in space plan))
-        → ArePlaces (build_in space plan) plan.places → Builds old new id plan entries → Next (hand (handed_of got))
-    built_on id space plan entries is waits places acts =
+        → AreDocuments (build_in space plan) plan.documents → Builds old new id plan entries → Next (hand (handed_of got))
+    built_on id space plan entries is waits documents acts =
         let p = acts.published in
         let build = build_in space plan in
-        let clean : CleanBuild build entries p.findings = record { places = subst (ArePlaces build) (sym p.of_places) places; found = p.found } in
+        let clean : CleanBuild build entries p.findings = record { documents = subst (AreDocuments build) (sym p.of_documents) documents; found = p.found } in
         let owes = subst (λ h. Owes (base_of old) old.status (owed id (handed_over h (building build))) [] (hand (handed_of got) ∷ order)) is (owes_on id (building build) tt waits) in
         let kept : shows new.shown ≡ table_with acts.messages (shows old.shown) = λ i document target. p.kept document target i in
         let answer_is : build_answer id build p.findings ≡ build_said id plan.origin acts.failed = ap (build_said id plan.origin) (sym p.failed_is) in

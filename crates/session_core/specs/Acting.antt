@@ -59,7 +59,7 @@ abbrev pub Asks : Core → Core → Id → List ℕ → Type 0
 Asks old new id root = Steps old new (record (state_of old) { awaiting = Some (awaits.Opening id root); need = Some workspace_need }) []
 
 abbrev pub paths_in : Plan → List (List ℕ)
-paths_in plan = each_once bytes_eq (map (λ place. place.path) plan.places)
+paths_in plan = each_once bytes_eq (map (λ document. document.path) plan.documents)
 
 -- the core keeps a build until it has its documents
 abbrev pub Plans : Core → Core → Id → Plan → Type 0
@@ -126,7 +126,7 @@ pub record Builds (old new : Core) (id : Id) (plan : Plan) (entries : Entries) :
   pub short : IfSome plan.origin (IsTextWithin origin_limit)
   pub messages : List Said
   pub failed : Bool
-  pub published : IsPublished (shows old.shown) (shows new.shown) plan.places plan.origin entries messages failed
+  pub published : IsPublished (shows old.shown) (shows new.shown) plan.documents plan.origin entries messages failed
   pub steps : Steps old new (record (state_of old) { base = record (base_of old) { table = shows new.shown }; awaiting = None }) (messages ++ build_said id plan.origin failed ∷ [])
 
 -- the core acts on the answer of the tree, for the build that waits for it

@@ -10,7 +10,7 @@ use Rattle.bsp_records.specs.ShortAnswers.{answer_limit}
 use Rattle.serde_json.specs.Data.{Data, null}
 use Rattle.serde_json.specs.View.{view}
 use Rattle.serde_json.specs.Written.{compact_text, has_float}
-use Rattle.session_law.specs.Builds.{ArePlaces}
+use Rattle.session_law.specs.Builds.{AreDocuments}
 use Rattle.session_law.specs.Methods.{Verdict, asking, opening, queued, building, answering, closing, refusal, Call, to_build, Found, all_found, unknown_at, refused_message, initialize_result, method_not_found, sources_unreadable, not_initialized, invalid_params, workspace_refused}
 use Rattle.session_law.specs.Questions.{IsAnswer}
 use Rattle.session_law.specs.RefusesExactly.{IsNoWorkspace}
@@ -69,7 +69,7 @@ pub record IsPlanOf (force : Option Space) (v : Verdict) (plan : Plan) : Type 0 
   pub space : Space
   pub in_force : force ≡ Some space
   pub is : v ≡ building (build_in space plan)
-  pub places : ArePlaces (build_in space plan) plan.places
+  pub documents : AreDocuments (build_in space plan) plan.documents
 
 -- what a request of the queue is owed as it is taken up
 abbrev pub TakesUp : Option Space → Verdict → TakenUp → Type 0

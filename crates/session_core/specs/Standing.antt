@@ -6,7 +6,7 @@ use Rattle.rpc_peer.specs.declared.message.Id.{Id}
 use Rattle.session_build.specs.Outgoing.{outgoing_said}
 use Rattle.session_law.specs.Lawful.{Lawful, AreHeld}
 use Rattle.session_law.specs.Order.{Event, write}
-use Rattle.session_law.specs.Builds.{ArePlaces}
+use Rattle.session_law.specs.Builds.{AreDocuments}
 use Rattle.session_law.specs.Methods.{Verdict, due_in}
 use Rattle.session_law.specs.Past.{after}
 use Rattle.session_law.specs.Requests.{Asked, Wants}
@@ -48,7 +48,7 @@ NeedFits need force awaiting = IfSome need (λ n. WantsOf (asked_by force awaiti
 
 abbrev pub AreIn : Option Space → Plan → Type 0
 AreIn None plan = ⊥
-AreIn (Some space) plan = ArePlaces (build_in space plan) plan.places
+AreIn (Some space) plan = AreDocuments (build_in space plan) plan.documents
 
 -- a build that waits has its documents, by the workspace in force
 abbrev pub PlanFits : Option Space → Option Awaiting → Type 0

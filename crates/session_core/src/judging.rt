@@ -21,7 +21,7 @@ use itoa::Buffer;
 use ob_text::{Held, Items, NoMemory, Text};
 use serde_json::Value;
 use session_answers::{inverse_answer, sources_answer, targets_answer};
-use session_build::places_of;
+use session_build::documents_of;
 use std::alloc::Global;
 use target_graph::{Root, RootFault, Workspace, WorkspaceRefusal, root_of};
 
@@ -245,9 +245,9 @@ fn plan_build(
 {
     match find_targets(alloc, params.targets.as_slice(), workspace)? {
         Ok(asked) => {
-            let places = places_of(alloc, workspace, asked.as_slice())?;
+            let documents = documents_of(alloc, workspace, asked.as_slice())?;
             let asked = Items::from_vec(asked);
-            Ok(TakenUp::Building(Planned::new(asked, params.origin_id, places)))
+            Ok(TakenUp::Building(Planned::new(asked, params.origin_id, documents)))
         }
         Err(index) => Ok(TakenUp::Refused(unknown_target(alloc, index)?)),
     }

@@ -254,7 +254,7 @@ impl Core {
         ensures alive { self.new.dead ≡ self.old.dead }
         ensures err { OnErr result (self.new.out.items ≡ self.old.out.items) }
     {
-        let paths = paths_of(self.alloc, planned.places())?;
+        let paths = paths_of(self.alloc, planned.documents())?;
         self.awaiting = Some(Awaiting::Building { id, planned });
         self.need = Some(Need::Tree(paths));
         Ok(())
@@ -373,8 +373,8 @@ impl Core {
         ensures status { self.new.status ≡ self.old.status }
         ensures err { OnErr result (self.new.out.items ≡ self.old.out.items) }
     {
-        let (places, origin) = (planned.places(), planned.origin());
-        let published = publish_all(self.alloc, &mut self.shown, places, origin, snapshot)?;
+        let (documents, origin) = (planned.documents(), planned.origin());
+        let published = publish_all(self.alloc, &mut self.shown, documents, origin, snapshot)?;
         let Published { messages, failed } = published;
         let mut messages = messages;
         let answer = compiled(self.alloc, id, origin, failed)?;

@@ -27,13 +27,13 @@ use Rattle.task_stream.specs.Pieces.{pieces}
 use Rattle.session_law.specs.Methods.{Build, is_named}
 use Rattle.ob_text.specs.Once.{each_once}
 use Rattle.session_law.specs.Order.{Entries}
-use Rattle.session_law.specs.declared.Place.{Place}
+use Rattle.session_law.specs.declared.BuildDocument.{BuildDocument}
 
 -- ---- the documents that a build is of
 
 -- a document in a target
-abbrev pub place_of : Space → Pair → Place
-place_of space pair =
+abbrev pub build_document : Space → Pair → BuildDocument
+build_document space pair =
     record {
       path = pair.path;
       address = record { document = document_address space.root pair.path; target = id_of space pair.target };
@@ -43,16 +43,16 @@ abbrev pub is_among : List ℕ → Pair → Bool
 is_among targets pair = list_any (λ target. target == pair.target) targets
 
 -- The documents of the targets asked for and of all that they depend on, in the order of the workspace file.
-pub record ArePlaces (build : Build) (places : List Place) : Type 0 where
+pub record AreDocuments (build : Build) (documents : List BuildDocument) : Type 0 where
   pub closure : List ℕ
   pub closed : IsClosure build.space.targets build.asked closure
-  pub are : places ≡ map (place_of build.space) (filter (is_among closure) (pairs_of build.space.targets))
+  pub are : documents ≡ map (build_document build.space) (filter (is_among closure) (pairs_of build.space.targets))
 
 -- the paths that a build wants, each once
 pub record WantsPaths (build : Build) (paths : List (List ℕ)) : Type 0 where
-  pub places : List Place
-  pub of_build : ArePlaces build places
-  pub are : paths ≡ each_once bytes_eq (map (λ place. place.path) places)
+  pub documents : List BuildDocument
+  pub of_build : AreDocuments build documents
+  pub are : paths ≡ each_once bytes_eq (map (λ document. document.path) documents)
 
 -- ---- what the clean build finds in what was handed out
 
@@ -62,16 +62,16 @@ handed_at entries path = unwrap_or (held_at entries path) Absent
 
 -- a document with its diagnostics
 pub record Finding : Type 0 where
-  pub place : Place
+  pub document : BuildDocument
   pub list : List Diagnostic
 
 -- these are the diagnostics of the document by what was handed out
 abbrev pub IsFound : Entries → Finding → Type 0
-IsFound entries finding = Diagnosed (handed_at entries finding.place.path) finding.list
+IsFound entries finding = Diagnosed (handed_at entries finding.document.path) finding.list
 
 -- each document of the build with its diagnostics, in order
 pub record CleanBuild (build : Build) (entries : Entries) (findings : List Finding) : Type 0 where
-  pub places : ArePlaces build (map (λ finding. finding.place) findings)
+  pub documents : AreDocuments build (map (λ finding. finding.document) findings)
   pub found : All (IsFound entries) findings
 
 abbrev pub is_error_severity : Severity → Bool
@@ -127,11 +127,11 @@ records_of list = map shown list
 
 -- the table shows the document's list
 abbrev pub Shows : Table → Finding → Type 0
-Shows table finding = table finding.place.address.document finding.place.address.target ≡ records_of finding.list
+Shows table finding = table finding.document.address.document finding.document.address.target ≡ records_of finding.list
 
 -- a document's whole list, in its pieces
 abbrev pub list_said : Option (List ℕ) → Finding → List Said
-list_said origin finding = map publication_said (pieces finding.place.address origin (records_of finding.list))
+list_said origin finding = map publication_said (pieces finding.document.address origin (records_of finding.list))
 
 -- what is published of one document: its list, unless the client shows it
 pub record Publishes (table : Table) (origin : Option (List ℕ)) (finding : Finding) (messages : List Said) : Type 0 where

@@ -16,20 +16,20 @@ use Rattle.task_stream.specs.Showing.{shows}
 use Rattle.session_build.proofs.publishing.publish_one.Goals as goal
 
 pub publish-requires-clause-document : goal.publish-requires-clause-document
-publish-requires-clause-document c = IsUtf8-from_ascii c.args.place.now.address.document (graphic_ascii c.args.place.now.address.document c.requires.plain.document.graphic)
+publish-requires-clause-document c = IsUtf8-from_ascii c.args.document.now.address.document (graphic_ascii c.args.document.now.address.document c.requires.plain.document.graphic)
 
 pub publish-requires-clause-target : goal.publish-requires-clause-target
-publish-requires-clause-target c = IsUtf8-from_ascii c.args.place.now.address.target (graphic_ascii c.args.place.now.address.target c.requires.plain.target.graphic)
+publish-requires-clause-target c = IsUtf8-from_ascii c.args.document.now.address.target (graphic_ascii c.args.document.now.address.target c.requires.plain.target.graphic)
 
 pub returns : goal.returns
 returns c =
-    let place = c.args.place.now in
+    let it = c.args.document.now in
     let list : List Diagnostic = c.in_ok-list.list.items in
     let origin = c.args.origin.now.value in
     let pieces : List PublishDiagnosticsParams = c.in_ok-pieces.pieces.items in
-    let document : length place.address.document ≤ 4400 = (let h = c.requires.plain.document.short in omega (arith, h)) in
-    let target : length place.address.target ≤ 4400 = (let h = c.requires.plain.target.short in omega (arith, h)) in
-    one_shown (shows c.args.shown.now) (shows c.publish.new.self) place origin (held_or_absent c.args.held) (map outgoing_said c.args.messages.now.items) (map outgoing_said c.say_all.new.messages.items)
+    let document : length it.address.document ≤ 4400 = (let h = c.requires.plain.document.short in omega (arith, h)) in
+    let target : length it.address.target ≤ 4400 = (let h = c.requires.plain.target.short in omega (arith, h)) in
+    one_shown (shows c.args.shown.now) (shows c.publish.new.self) it origin (held_or_absent c.args.held) (map outgoing_said c.args.messages.now.items) (map outgoing_said c.say_all.new.messages.items)
     list pieces c.has_error-failed.result c.in_ok-list.ensures.found
     c.in_ok-pieces.ensures.same c.in_ok-pieces.ensures.other (c.in_ok-pieces.ensures.client (shows c.args.shown.now) refl) c.in_ok-pieces.ensures.table
     c.in_ok-say_all.ensures
