@@ -53,7 +53,11 @@ fn set_of(alloc: Global, numbers: &[u32]) -> Result<IndexSet<u32>, NoMemory>
 }
 
 /// A pair's document in its target.
-fn document_of_pair(alloc: Global, workspace: &Workspace, pair: u32) -> Result<BuildDocument, NoMemory>
+fn document_of_pair(
+    alloc: Global,
+    workspace: &Workspace,
+    pair: u32,
+) -> Result<BuildDocument, NoMemory>
     requires { pair < length (pairs_of workspace.now.targets) }
     ensures document { IfOk result (λ document. (at : Pair) → slice_get (pairs_of
         workspace.now.targets) pair ≡ Some at → document ≡ build_document workspace.now at) }
@@ -69,7 +73,7 @@ fn document_of_pair(alloc: Global, workspace: &Workspace, pair: u32) -> Result<B
     })
 }
 
-/// The paths of some documents, each once, at its first index.
+/// The paths of some documents, each once, in the order in which they come first.
 pub fn paths_of(alloc: Global, documents: &[BuildDocument]) -> Result<Items<Path>, NoMemory>
     ensures { IfOk result (λ paths. paths ≡ each_once bytes_eq (map (λ document. document.path) documents.now)) }
 {

@@ -5,11 +5,11 @@
 //! requests. Begin with `publish_all` and `specs/Publishing.antt`; what is published waits as `Outgoing` (`outgoing.rt`).
 #![tactic(auto)]
 
+mod documents;
 mod handed;
 mod outgoing;
-mod documents;
 mod publishing;
 
+pub use documents::{documents_of, paths_of};
 pub use outgoing::Outgoing;
-pub use documents::{paths_of, documents_of};
 pub use publishing::{Published, publish_all};
