@@ -15,8 +15,8 @@ use ob_text::{Diagnostic, NoMemory, Text};
 use std::alloc::Global;
 
 /// Prints the params of build/publishDiagnostics for a list of diagnostics behind `out`: its JSON with no space and the
-/// members in the order of their names. One diagnostic after another becomes JSON, so that no more memory is taken than
-/// the text has.
+/// members in the order of their names. One diagnostic after another becomes JSON, so that one alone takes its
+/// memory beside the text.
 pub fn print_publication(
     alloc: Global,
     document: &Text,
