@@ -9,7 +9,7 @@ ghost use Rattle.session_core.specs.Standing.{StandsFor, Awaits, IsAlive, IsFree
 ghost use Rattle.session_core.specs.State.{handed_of, state_of};
 ghost use Rattle.bsp_cli.specs.Outside.{told};
 ghost use Rattle.bsp_cli.specs.Progress.{IsReady};
-ghost use Rattle.bsp_cli.specs.Writing.{Acts, Flushes, Halts, HaltsAt, Sends, Steps, Stops};
+ghost use Rattle.bsp_cli.specs.Writing.{ActsThrough, Flushes, Halts, HaltsAt, Sends, GoesThrough, Stops};
 
 use crate::stop::Stop;
 use crate::writing::{SinkFailed, write_all};
@@ -53,7 +53,7 @@ impl Responder {
     ) -> Result<Option<u8>, Stop>
         requires ready { IsReady self.old.core }
         requires stood { (order : List Event) × StandsFor self.old.core order }
-        ensures steps { OnOk result (Steps self.old.core self.new.core (body.now ∷ [])
+        ensures steps { OnOk result (GoesThrough self.old.core self.new.core (body.now ∷ [])
             (told (K.given output.old) (T.handed tree.old) (T.faults tree.old))
             (told (K.given output.new) (T.handed tree.new) (T.faults tree.new))) }
         ensures quiet { OnOk result (IsQuiet self.new.core) }
@@ -79,7 +79,7 @@ impl Responder {
     fn act_on_body<K: Sink>(&mut self, body: &[u8], output: &mut K) -> Result<(), Stop>
         requires ready { IsReady self.old.core }
         requires stood { (order : List Event) × StandsFor self.old.core order }
-        ensures acts { OnOk result (Acts self.old.core self.new.core (take body.now)
+        ensures acts { OnOk result (ActsThrough self.old.core self.new.core (take body.now)
             (K.given output.old) (K.given output.new)) }
         ensures quiet { OnOk result (IsQuiet self.new.core) }
         ensures alive { OnOk result (IsAlive self.new.core) }
@@ -101,7 +101,7 @@ impl Responder {
         requires alive { IsAlive self.old.core }
         requires needs { NeedsWhatItAwaits self.old.core }
         requires stood { (order : List Event) × StandsFor self.old.core order }
-        ensures steps { OnOk result (Steps self.old.core self.new.core []
+        ensures steps { OnOk result (GoesThrough self.old.core self.new.core []
             (told (K.given output.old) (T.handed tree.old) (T.faults tree.old))
             (told (K.given output.new) (T.handed tree.new) (T.faults tree.new))) }
         ensures quiet { OnOk result (IsQuiet self.new.core) }
@@ -131,7 +131,7 @@ impl Responder {
         requires asked { NeedsNothing self.old.core }
         requires awaited { Awaits self.old.core paths }
         requires stood { (order : List Event) × StandsFor self.old.core order }
-        ensures steps { OnOk result (Steps self.old.core self.new.core []
+        ensures steps { OnOk result (GoesThrough self.old.core self.new.core []
             (told (K.given output.old) (T.handed tree.old) (T.faults tree.old))
             (told (K.given output.new) (T.handed tree.new) (T.faults tree.new))) }
         ensures quiet { OnOk result (IsQuiet self.new.core) }
@@ -157,7 +157,7 @@ impl Responder {
         requires asked { NeedsNothing self.old.core }
         requires wanted { Suits self.old.core got }
         requires stood { (order : List Event) × StandsFor self.old.core order }
-        ensures acts { OnOk result (Acts self.old.core self.new.core (hand (handed_of got))
+        ensures acts { OnOk result (ActsThrough self.old.core self.new.core (hand (handed_of got))
             (K.given output.old) (K.given output.new)) }
         ensures quiet { OnOk result (IsQuiet self.new.core) }
         ensures free { OnOk result (IsFree self.new.core) }
@@ -177,7 +177,7 @@ impl Responder {
     pub fn act_on_end<K: Sink>(&mut self, how: InputEnd, output: &mut K) -> Result<(), Stop>
         requires ready { IsReady self.old.core }
         requires stood { (order : List Event) × StandsFor self.old.core order }
-        ensures acts { OnOk result (Acts self.old.core self.new.core (ends how)
+        ensures acts { OnOk result (ActsThrough self.old.core self.new.core (ends how)
             (K.given output.old) (K.given output.new)) }
         ensures quiet { OnOk result (IsQuiet self.new.core) }
         ensures alive { OnOk result (IsAlive self.new.core) }

@@ -28,9 +28,9 @@ use Rattle.ob_text.specs.declared.held.Held.{Held}
 use Rattle.ob_text.specs.declared.diagnostic.Diagnostic.{Diagnostic}
 use Rattle.oberon_check.specs.Diagnosed.{Diagnosed}
 use Rattle.rpc_peer.specs.Said.{Said, notification, body_of}
-use Rattle.session_law.specs.Builds.{Finding, IsFound, Publishes, PublishesSome, Shows, handed_at, has_error, is_error_severity, none, one_more, publication_in, publication_said, published_if, shown_by, table_with}
+use Rattle.session_law.specs.Builds.{Finding, IsFound, Publishes, PublishesSome, Shows, handed_at, has_error, is_error_severity, none, one_more, publication_in, publication_said, published_if, shown_by, table_behind}
 use Rattle.session_law.specs.IsFramed.{IsFramed}
-use Rattle.session_law.specs.Order.{Entries}
+use Rattle.ob_text.specs.Held.{Entries}
 use Rattle.session_law.specs.declared.BuildDocument.{BuildDocument}
 use Rattle.session_build.specs.Publishing.{IsNotice, IsPublished, IsPublishedOne, finding_of}
 use Rattle.session_build.proofs.RoundTrip.{publication_back}
@@ -44,9 +44,9 @@ said_shows : (p : PublishDiagnosticsParams) (table : Table) → shown_by (public
 said_shows p table = ap (λ q. published q table) (publication_back p)
 
 -- messages of publications show what the publications do
-pub all_shown : (ps : List PublishDiagnosticsParams) (table : Table) → table_with (map publication_said ps) table ≡ tables.table_with ps table
+pub all_shown : (ps : List PublishDiagnosticsParams) (table : Table) → table_behind (map publication_said ps) table ≡ tables.table_with ps table
 all_shown [] table = refl
-all_shown (p ∷ ps) table = ap (table_with (map publication_said ps)) (said_shows p table) ∙ all_shown ps (published p table)
+all_shown (p ∷ ps) table = ap (table_behind (map publication_said ps)) (said_shows p table) ∙ all_shown ps (published p table)
 
 -- ---- tables that show the same
 
@@ -58,7 +58,7 @@ if_same None a b same document target = same document target
 if_same (Some p) a b same document target =
     ap (λ (list : List DiagnosticRecord). if is_about p document target then (if p.reset then p.diagnostics else list ++ p.diagnostics) else list) (same document target)
 
-pub table_same : (messages : List Said) (a b : Table) → Same a b → Same (table_with messages a) (table_with messages b)
+pub table_same : (messages : List Said) (a b : Table) → Same a b → Same (table_behind messages a) (table_behind messages b)
 table_same [] a b same = same
 table_same (m ∷ messages) a b same = table_same messages (shown_by m a) (shown_by m b) (if_same (publication_in m) a b same)
 
@@ -123,13 +123,13 @@ one_published old mid new documents it origin entries held before after failed o
       found = All-push (IsFound entries) all.findings finding all.found (subst (λ (h : Held). Diagnosed h one.list) is one.found);
       publishes =
           subst (PublishesSome old origin (all.findings ++ finding ∷ [])) (sym one.messages)
-          (one_more finding one.own all.publishes (fresh it all.findings finding refl (documents_all (IsApart it) all.findings documents all.of_documents apart)) (publishes_same mid (table_with before old) origin finding one.own all.kept one.publishes));
+          (one_more finding one.own all.publishes (fresh it all.findings finding refl (documents_all (IsApart it) all.findings documents all.of_documents apart)) (publishes_same mid (table_behind before old) origin finding one.own all.kept one.publishes));
       framed = subst (All IsFramed) (sym one.messages) (All-append IsFramed before one.own all.framed one.framed);
       notices = subst (All IsNotice) (sym one.messages) (All-append IsNotice before one.own all.notices one.notices);
       kept = λ document target.
           one.kept document target
-          ∙ (table_same one.own mid (table_with before old) all.kept document target
-          ∙ ap (λ (t : Table). t document target) (sym (ap (λ ms. table_with ms old) one.messages ∙ fold-append (λ shows m. shown_by m shows) old before one.own)));
+          ∙ (table_same one.own mid (table_behind before old) all.kept document target
+          ∙ ap (λ (t : Table). t document target) (sym (ap (λ ms. table_behind ms old) one.messages ∙ fold-append (λ shows m. shown_by m shows) old before one.own)));
       shows =
           All-push (Shows new) all.findings finding
           (shows_on mid new it all.findings one.elsewhere (documents_all (IsApart it) all.findings documents all.of_documents apart) all.shows) one.shows;

@@ -6,9 +6,9 @@ use Rattle.ob_text.specs.declared.diagnostic.Diagnostic.{Diagnostic}
 use Rattle.ob_text.specs.declared.held.Held.{Held}
 use Rattle.oberon_check.specs.Diagnosed.{Diagnosed}
 use Rattle.rpc_peer.specs.Said.{Said}
-use Rattle.session_law.specs.Builds.{Finding, IsFound, Publishes, PublishesSome, Shows, has_error, is_publication, table_with}
+use Rattle.session_law.specs.Builds.{Finding, IsFound, Publishes, PublishesSome, Shows, has_error, is_publication, table_behind}
 use Rattle.session_law.specs.IsFramed.{IsFramed}
-use Rattle.session_law.specs.Order.{Entries}
+use Rattle.ob_text.specs.Held.{Entries}
 use Rattle.session_law.specs.declared.BuildDocument.{BuildDocument}
 use Rattle.task_stream.specs.Showing.{is_at}
 
@@ -25,7 +25,7 @@ pub record IsPublished (old new : Table) (documents : List BuildDocument) (origi
   pub framed : All IsFramed messages
   pub notices : All IsNotice messages
   -- the table that is kept is the one that a client has, and it shows each list
-  pub kept : (document target : List ℕ) → new document target ≡ table_with messages old document target
+  pub kept : (document target : List ℕ) → new document target ≡ table_behind messages old document target
   pub shows : All (Shows new) findings
   pub failed_is : failed ≡ list_any has_error findings
 
@@ -41,7 +41,7 @@ pub record IsPublishedOne (old new : Table) (it : BuildDocument) (origin : Optio
   pub messages : after ≡ before ++ own
   pub framed : All IsFramed own
   pub notices : All IsNotice own
-  pub kept : (document target : List ℕ) → new document target ≡ table_with own old document target
+  pub kept : (document target : List ℕ) → new document target ≡ table_behind own old document target
   pub shows : Shows new (finding_of it list)
   -- what is shown elsewhere stays
   pub elsewhere : (document target : List ℕ) → is_at it.address document target ≡ false → new document target ≡ old document target

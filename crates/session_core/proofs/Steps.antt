@@ -8,12 +8,13 @@ use Rattle.rpc_peer.specs.Said.{Said, request, notification, result, failure, Is
 use Rattle.session_build.specs.Outgoing.{outgoing_said}
 use Rattle.session_law.specs.declared.InputEnd.TheVariants.{Border, Damaged, Failed}
 use Rattle.session_law.specs.declared.InputEnd.{InputEnd}
-use Rattle.session_law.specs.Builds.{AreDocuments, CleanBuild, build_answer, build_said, table_with}
+use Rattle.session_law.specs.Builds.{AreDocuments, CleanBuild, build_answer, build_said, table_behind}
 use Rattle.session_law.specs.AnswersAtOnce.{IsCaughtUp}
 use Rattle.session_law.specs.IsFramed.{IsFramed}
 use Rattle.session_law.specs.Lawful.{Lawful, EachAllowed}
 use Rattle.session_law.specs.Methods.{Verdict, asking, opening, queued, building, built, answering, closing, refusal, unreadable, verdict, due_in}
-use Rattle.session_law.specs.Order.{Entries, Event, take, ends, hand, write}
+use Rattle.ob_text.specs.Held.{Entries}
+use Rattle.session_law.specs.Order.{Event, take, ends, hand, write}
 use Rattle.session_law.specs.Past.{after, exit_status, nulls_for, nulls_for_end, end_status}
 use Rattle.session_law.specs.Requests.{Asked, WantedBy, Wants, all_marked, first_up, handed_by, handed_over, opened_by}
 use Rattle.session_core.specs.Acting.{Deed, answers_by, asks_at, plans_by, Does, DeedFits, answer_unread, answered, paths_in, Answers, AnswersAs, Builds, BuildsOn, Steps, Acts, ActsOnHand, Ends, exited_by}
@@ -286,7 +287,7 @@ module _ (old new : Core) (order : List Event) (quiet : old.out.items ≡ []) (a
         let build = build_in space plan in
         let clean : CleanBuild build entries p.findings = record { documents = subst (AreDocuments build) (sym p.of_documents) documents; found = p.found } in
         let owes = subst (λ h. Owes (base_of old) old.status (owed id (handed_over h (building build))) [] (hand (handed_of got) ∷ order)) is (owes_on id (building build) tt waits) in
-        let kept : shows new.shown ≡ table_with acts.messages (shows old.shown) = λ i document target. p.kept document target i in
+        let kept : shows new.shown ≡ table_behind acts.messages (shows old.shown) = λ i document target. p.kept document target i in
         let answer_is : build_answer id build p.findings ≡ build_said id plan.origin acts.failed = ap (build_said id plan.origin) (sym p.failed_is) in
         let framed = subst IsFramed (sym answer_is) (framed_build id plan.origin acts.failed (named_on id (building build) waits) acts.short) in
         let given = gives_build id build entries (base_of old) old.status p.findings clean acts.messages p.publishes (shows new.shown) (hand (handed_of got) ∷ order) refl

@@ -14,7 +14,7 @@ use Rattle.session_law.specs.Builds.{build_said}
 use Rattle.session_law.specs.IsFramed.{IsFramed}
 use Rattle.session_law.specs.Methods.{Verdict, asking, unreadable, verdict, due_in, is_named, null_message}
 use Rattle.ob_text.specs.Once.{each_once}
-use Rattle.session_law.specs.Order.{Entries}
+use Rattle.ob_text.specs.Held.{Entries}
 use Rattle.session_law.specs.Requests.{handed_over}
 use Rattle.session_law.specs.declared.InputEnd.{InputEnd}
 use Rattle.session_law.specs.declared.InputEnd.TheVariants.{Border, Damaged, Failed}

@@ -8,7 +8,7 @@ ghost use Rattle.bsp_records.specs.Limits.{root_uri_limit};
 ghost use Rattle.bsp_records.specs.declared.requests.Method.TheVariants.{Initialize};
 ghost use Rattle.serde_json.specs.View.{view};
 ghost use Rattle.session_law.specs.Methods.{opening, verdict, verdict_for, is_initialize, served_in, read_in, first_asked, asked_of, rooted, sourced, found_from, found_build, target_path, taken_in};
-ghost use Rattle.session_core.specs.Judging.{Judges, Fits, IsFoundAs, IsSaid, IsSaidOwed, IsSaidUp, HasTexts, TakesUp, call_of};
+ghost use Rattle.session_core.specs.Judging.{Judges, Fits, IsFoundAs, IsSaid, IsSaidOwed, IsSaidUp, HasQueuedTexts, TakesUp, queued_call};
 ghost use Rattle.target_graph.specs.Address.{root_at};
 ghost use Rattle.target_graph.specs.Workspace.{named};
 
@@ -220,9 +220,9 @@ pub fn take_up(
     call: Queued,
     workspace: &Option<Workspace>,
 ) -> Result<TakenUp, NoMemory>
-    requires texts { HasTexts call }
+    requires texts { HasQueuedTexts call }
     requires begun { IsSome workspace.now }
-    ensures taken { IfOk result (TakesUp workspace.now (taken_in workspace.now (call_of call))) }
+    ensures taken { IfOk result (TakesUp workspace.now (taken_in workspace.now (queued_call call))) }
     ensures short { IfOk result IsSaidUp }
 {
     match workspace {

@@ -51,7 +51,7 @@ impl Core {
     ghost use Rattle.session_law.specs.Methods.{asking, due_in, taken_in, unreadable, verdict};
     ghost use Rattle.session_law.specs.Order.{Event, take, ends, hand, write};
     ghost use Rattle.session_core.specs.Acting.{Acts, ActsOnHand, Answers, AnswersUnread, Asks, Builds, BuildsOn, Ends, Plans, ServesAs, AnswersAs, Steps, exited_by};
-    ghost use Rattle.session_core.specs.Judging.{HasTexts, call_of};
+    ghost use Rattle.session_core.specs.Judging.{HasQueuedTexts, queued_call};
     ghost use Rattle.session_core.specs.Reading.{AreReadable};
     ghost use Rattle.session_core.specs.Standing.{StandsFor, Awaits, Suits, IsFree, NeedsNothing, NeedsWhatItAwaits, IsQuiet, IsAlive, status_of, left_to_write};
     ghost use Rattle.session_core.specs.State.{handed_of, needed_paths, state_of};
@@ -223,10 +223,10 @@ impl Core {
     // Takes up a request of the queue.
     fn take_up(&mut self, id: Id, call: Queued) -> Result<(), NoMemory>
         requires named { IsId id }
-        requires texts { HasTexts call }
+        requires texts { HasQueuedTexts call }
         requires begun { IsSome self.old.workspace }
         ensures ok { OnOk result (ServesAs self.old self.new id
-            (taken_in self.old.workspace (call_of call))) }
+            (taken_in self.old.workspace (queued_call call))) }
         ensures alive { self.new.dead ≡ self.old.dead }
         ensures err { OnErr result (self.new.out.items ≡ self.old.out.items) }
     {

@@ -3,7 +3,7 @@ use Rattle.std.specs.Prelude.{◌≡◌, ◌==◌, ◌++◌, Contains, ℕ, List
 use Rattle.std.specs.List.{All, list_any, fold}
 use Rattle.std.specs.Str.{bytes_eq}
 use Rattle.ob_text.specs.Code.{severity_of}
-use Rattle.ob_text.specs.Held.{held_at}
+use Rattle.ob_text.specs.Held.{Entries, held_at}
 use Rattle.ob_text.specs.declared.code.Severity.{Severity}
 use Rattle.ob_text.specs.declared.code.Severity.TheVariants.{Error, Warning}
 use Rattle.ob_text.specs.declared.diagnostic.Diagnostic.{Diagnostic}
@@ -26,7 +26,6 @@ use Rattle.target_graph.specs.declared.target.Pair.{Pair}
 use Rattle.task_stream.specs.Pieces.{pieces}
 use Rattle.session_law.specs.Methods.{Build, is_named}
 use Rattle.ob_text.specs.Once.{each_once}
-use Rattle.session_law.specs.Order.{Entries}
 use Rattle.session_law.specs.declared.BuildDocument.{BuildDocument}
 
 -- ---- the documents that a build is of
@@ -82,12 +81,12 @@ abbrev pub has_error : Finding → Bool
 has_error finding = list_any (λ diagnostic. is_error_severity (severity_of diagnostic.code)) finding.list
 
 -- the status of a build, which has an error or has none (Build Server Protocol 2.2, StatusCode)
-abbrev pub status_by : Bool → StatusCode
-status_by failed = if failed then statuses.Error else statuses.Ok
+abbrev pub build_status : Bool → StatusCode
+build_status failed = if failed then statuses.Error else statuses.Ok
 
 -- the response to a compile with this `originId`
 unfoldable pub build_said : Id → Option (List ℕ) → Bool → Said
-build_said id origin failed = result (Some id) (compile_result_data (record { origin_id = origin; status_code = status_by failed }))
+build_said id origin failed = result (Some id) (compile_result_data (record { origin_id = origin; status_code = build_status failed }))
 
 abbrev pub build_answer : Id → Build → List Finding → Said
 build_answer id build findings = build_said id build.origin (list_any has_error findings)
@@ -112,8 +111,8 @@ abbrev pub shown_by : Said → Table → Table
 shown_by m table = published_if (publication_in m) table
 
 -- the same once these messages were written, the first of them first
-abbrev pub table_with : List Said → Table → Table
-table_with messages table = fold (λ shows m. shown_by m shows) table messages
+abbrev pub table_behind : List Said → Table → Table
+table_behind messages table = fold (λ shows m. shown_by m shows) table messages
 
 -- ---- what is published
 
@@ -142,7 +141,7 @@ pub record Publishes (table : Table) (origin : Option (List ℕ)) (finding : Fin
 pub data PublishesSome (table : Table) (origin : Option (List ℕ)) : List Finding → List Said → Type 0 where
   none : PublishesSome table origin [] []
   one_more : {done : List Finding} {messages : List Said} (finding : Finding) (own : List Said) → PublishesSome table origin done messages
-      → ¬ (Contains done finding) → Publishes (table_with messages table) origin finding own → PublishesSome table origin (done ++ finding ∷ []) (messages ++ own)
+      → ¬ (Contains done finding) → Publishes (table_behind messages table) origin finding own → PublishesSome table origin (done ++ finding ∷ []) (messages ++ own)
 
 -- the message publishes a list, or a piece of one
 abbrev pub is_publication : Said → Bool

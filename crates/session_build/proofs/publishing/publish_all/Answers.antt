@@ -1,6 +1,6 @@
 use Rattle.std.proofs.Common.{◌≡◌, ◌+◌, ◌++◌, ◌||◌, ◌∷◌, [], ℕ, List, Bool, false, Option, unwrap_or, map, take, ap, sym, subst, ◌∙◌}
 use Rattle.std.proofs.lemmas.List.{take_more}
-use Rattle.ob_text.specs.Held.{held_at}
+use Rattle.ob_text.specs.Held.{Entries, held_at}
 use Rattle.ob_text.specs.declared.held.Held.{Held}
 use Rattle.ob_text.specs.declared.held.Held.TheVariants.{Absent}
 use Rattle.session_build.specs.Outgoing.{outgoing_said}
@@ -8,7 +8,6 @@ use Rattle.session_build.specs.declared.outgoing.Outgoing.{Outgoing}
 use Rattle.session_law.specs.declared.BuildDocument.{BuildDocument}
 use Rattle.session_build.specs.Handed.{held_or_absent}
 use Rattle.session_build.specs.Publishing.{IsPublished, IsPublishedOne}
-use Rattle.session_law.specs.Order.{Entries}
 use Rattle.session_build.proofs.HandedLaws.{handed_readable}
 use Rattle.session_build.proofs.Publications.{apart_before, none_published, one_published}
 use Rattle.task_stream.specs.Showing.{shows}
