@@ -2,42 +2,42 @@ ghost use Rattle.std.specs.Prelude.{◌≡◌, ◌≢◌, ◌==◌, ◌<◌, ℕ
 ghost use Rattle.std.specs.List.{All, AllPairs, list_any, slice_get};
 ghost use Rattle.std.specs.Str.{bytes_eq};
 ghost use Rattle.indexmap.specs.IndexSet.{contains};
-ghost use Rattle.session_law.specs.Builds.{ArePlaces, place_of};
+ghost use Rattle.session_law.specs.Builds.{AreDocuments, build_document};
 ghost use Rattle.ob_text.specs.Once.{each_once, once_more};
-ghost use Rattle.session_build.specs.Placed.{HasPlainAddress, build_of};
+ghost use Rattle.session_build.specs.Documents.{HasPlainAddress, build_of};
 ghost use Rattle.target_graph.specs.Workspace.{pairs_of};
 ghost use Rattle.target_graph.specs.declared.target.Pair.{Pair};
 
 use indexmap::IndexSet;
 use ob_text::{Items, NoMemory, Path};
-use session_law::Place;
+use session_law::BuildDocument;
 use std::alloc::Global;
 use target_graph::Workspace;
 use task_stream::Address;
 
 /// The documents of some targets and of all that they depend on, in the order of the workspace file.
-pub fn places_of(
+pub fn documents_of(
     alloc: Global,
     workspace: &Workspace,
     asked: &[u32],
-) -> Result<Items<Place>, NoMemory>
+) -> Result<Items<BuildDocument>, NoMemory>
     requires { All (λ target. target < length workspace.now.targets) asked.now }
-    ensures places { IfOk result (λ places. (origin : Option (List ℕ))
-        → ArePlaces (build_of workspace.now asked.now origin) places) }
+    ensures documents { IfOk result (λ documents. (origin : Option (List ℕ))
+        → AreDocuments (build_of workspace.now asked.now origin) documents) }
     ensures plain { IfOk result (All HasPlainAddress) }
     // No two stand at one address.
-    ensures distinct { IfOk result (λ places. AllPairs ◌≢◌ (map (λ place. place.address) places)) }
+    ensures distinct { IfOk result (λ documents. AllPairs ◌≢◌ (map (λ document. document.address) documents)) }
 {
     let targets = workspace.closure(asked)?;
     let closure = set_of(alloc, targets.as_slice())?;
-    let mut places = Vec::new(alloc);
+    let mut documents = Vec::new(alloc);
     for pair in 0..workspace.pairs().len() {
         let target = workspace.pairs()[pair].target;
         if closure.contains(&target) {
-            places.push(place_at(alloc, workspace, pair as u32)?)?;
+            documents.push(document_of_pair(alloc, workspace, pair as u32)?)?;
         }
     }
-    Ok(Items::from_vec(places))
+    Ok(Items::from_vec(documents))
 }
 
 /// The numbers as a set.
@@ -53,31 +53,35 @@ fn set_of(alloc: Global, numbers: &[u32]) -> Result<IndexSet<u32>, NoMemory>
 }
 
 /// A pair's document in its target.
-fn place_at(alloc: Global, workspace: &Workspace, pair: u32) -> Result<Place, NoMemory>
+fn document_of_pair(
+    alloc: Global,
+    workspace: &Workspace,
+    pair: u32,
+) -> Result<BuildDocument, NoMemory>
     requires { pair < length (pairs_of workspace.now.targets) }
-    ensures place { IfOk result (λ place. (at : Pair) → slice_get (pairs_of
-        workspace.now.targets) pair ≡ Some at → place ≡ place_of workspace.now at) }
+    ensures document { IfOk result (λ document. (at : Pair) → slice_get (pairs_of
+        workspace.now.targets) pair ≡ Some at → document ≡ build_document workspace.now at) }
     ensures plain { IfOk result HasPlainAddress }
 {
     let at = &workspace.pairs()[pair as usize];
     let path = at.path.copy(alloc)?;
     let document = workspace.document_of(pair)?;
     let target = workspace.target_id(at.target)?;
-    Ok(Place {
+    Ok(BuildDocument {
         path,
         address: Address { document, target },
     })
 }
 
-/// The paths of some documents, each once, at its first place.
-pub fn paths_of(alloc: Global, places: &[Place]) -> Result<Items<Path>, NoMemory>
-    ensures { IfOk result (λ paths. paths ≡ each_once bytes_eq (map (λ place. place.path) places.now)) }
+/// The paths of some documents, each once, in the order in which they come first.
+pub fn paths_of(alloc: Global, documents: &[BuildDocument]) -> Result<Items<Path>, NoMemory>
+    ensures { IfOk result (λ paths. paths ≡ each_once bytes_eq (map (λ document. document.path) documents.now)) }
 {
     let mut seen = IndexSet::new(alloc);
     let mut paths = Vec::new(alloc);
-    for place in places {
-        if see(alloc, &mut seen, &place.path)? {
-            paths.push(place.path.copy(alloc)?)?;
+    for document in documents {
+        if see(alloc, &mut seen, &document.path)? {
+            paths.push(document.path.copy(alloc)?)?;
         }
     }
     Ok(Items::from_vec(paths))
