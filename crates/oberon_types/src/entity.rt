@@ -3,6 +3,7 @@ ghost use Rattle.oberon_types.specs.Memory.{plain_param, plain_signature, plain_
 
 use crate::ty::Ty;
 use crate::value::Value;
+use indexmap::IndexMap;
 use ob_text::{Name, NoMemory};
 use std::alloc::Global;
 use std::sync::Arc;
@@ -31,10 +32,11 @@ pub enum Entity {
     Proc(Signature),
 }
 
-/// What a module exports, in the order of the names. Its records have their exported fields alone.
+/// What a module exports, in the order of the names, each found by its hash. Its records have their exported fields
+/// alone.
 #[derive(Drop)]
 pub struct Exports {
-    pub entities: Vec<(Name, Entity)>,
+    pub entities: IndexMap<Name, Entity>,
 }
 
 /// What a module shows to those that import it. Copies share what is exported.

@@ -1,0 +1,4 @@
+pub mod Adds
+pub mod Given
+pub mod Memory
+pub mod Parts
