@@ -1,7 +1,7 @@
 -- The arguments of a call, as far as a predeclared procedure looks at them: one, two, or another number of them.
 use Rattle.std.specs.Prelude.{List, [], ◌∷◌}
-use Rattle.oberon_infer.specs.declared.argument.Given.{Given as OwnGiven}
-use Rattle.oberon_infer.specs.declared.argument.Given.TheVariants as givens
+use Rattle.oberon_infer.specs.declared.word.Given.{Given as OwnGiven}
+use Rattle.oberon_infer.specs.declared.word.Given.TheVariants as givens
 use Rattle.oberon_infer.specs.Memory.{plain_ex}
 use Rattle.oberon_rules.specs.Scopes.{Predeclared}
 use Rattle.oberon_rules.specs.Expressions.{Ex, nothing, word_called}

@@ -1,4 +1,6 @@
 pub mod Adds
+pub mod Bare
 pub mod Given
 pub mod Memory
 pub mod Parts
+pub mod Sets

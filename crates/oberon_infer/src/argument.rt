@@ -1,15 +1,12 @@
-ghost use Rattle.std.specs.Prelude.{◌≡◌, ◌==◌, ◌&&◌, ◌∷◌, [], OnOk};
-ghost use Rattle.oberon_types.specs.Types.{integer_ty};
+ghost use Rattle.std.specs.Prelude.{◌≡◌, OnOk};
 ghost use Rattle.oberon_types.specs.Memory.{plain_ty, plain_param};
-ghost use Rattle.oberon_rules.specs.Expressions.{word_called, length_of, value_if, is_whole, ty_of};
-ghost use Rattle.oberon_rules.specs.ExpressionRules.{a_param, word_wants, one_wanted, two_wanted, one_or_two, first_wanted, later_wanted, var_fits, value_fits, elements_same, is_char, is_array, changed_rows, array_rows, wanted_rows, argument_rows, argument_count};
+ghost use Rattle.oberon_rules.specs.ExpressionRules.{a_param, word_wants, one_wanted, two_wanted, one_or_two, or_none, first_wanted, later_wanted, var_fits, value_fits, elements_same, is_char, is_array, changed_rows, array_rows, wanted_rows, argument_rows, argument_count};
 ghost use Rattle.oberon_tree.specs.Memory.{arguments_option};
 ghost use Rattle.oberon_infer.specs.Memory.{plain_ex, plain_type, plain_word, plain_wanted, plain_wanted_option, plain_expected, plain_expected_option};
-ghost use Rattle.oberon_infer.specs.Given.{plain_given, given_with, word_given};
 ghost use Rattle.oberon_infer.specs.Parts.{wants_of};
 ghost use Rattle.oberon_infer.specs.Adds.{Adds};
 
-use crate::ex::{Ex, value_if};
+use crate::ex::Ex;
 use crate::rows::add_value_row;
 use crate::said::{Said, add_broken, add_row};
 use crate::standard::Word;
@@ -92,7 +89,7 @@ pub fn argument_count(arguments: &Option<Box<Exprs>>) -> usize
 }
 
 /// What so many arguments of a call have to be; None where it doesn't take so many.
-pub fn wants<'b>(x: Ex<'b>, count: usize) -> Option<Expected<'b>>
+pub fn expectation<'b>(x: Ex<'b>, count: usize) -> Option<Expected<'b>>
     ensures { plain_expected_option result ≡ wants_of (plain_ex x.entry) count }
 {
     match x {
@@ -103,12 +100,12 @@ pub fn wants<'b>(x: Ex<'b>, count: usize) -> Option<Expected<'b>>
                 None
             }
         }
-        Ex::Word(word) => word_wants(word, count),
+        Ex::Word(word) => expected_by(word, count),
         _ => Some(Expected::Nothing),
     }
 }
 
-fn word_wants<'b>(word: Word, count: usize) -> Option<Expected<'b>>
+fn expected_by<'b>(word: Word, count: usize) -> Option<Expected<'b>>
     ensures { plain_expected_option result ≡ word_wants (plain_word word) count }
 {
     let whole = Wanted::Value(TypeRef::Integer);
@@ -126,6 +123,16 @@ fn word_wants<'b>(word: Word, count: usize) -> Option<Expected<'b>>
         Word::Incl => two_wanted(count, Wanted::SetVariable, whole),
         Word::Excl => two_wanted(count, Wanted::SetVariable, whole),
         Word::Assert => one_wanted(count, Wanted::Value(TypeRef::Boolean)),
+    }
+}
+
+/// What is expected, or nothing in place of none.
+pub fn or_nothing<'b>(expected: Option<Expected<'b>>) -> Expected<'b>
+    ensures { plain_expected result ≡ or_none (plain_expected_option expected.entry) }
+{
+    match expected {
+        Some(expected) => expected,
+        None => Expected::Nothing,
     }
 }
 
@@ -285,118 +292,5 @@ fn is_array(ty: TypeRef) -> bool
         TypeRef::Open { .. } => true,
         TypeRef::Unknown => true,
         _ => false,
-    }
-}
-
-/// What the arguments of a call are, as far as a predeclared procedure looks at them.
-#[derive(Clone, Copy)]
-pub enum Given<'b> {
-    Nothing,
-    One(Ex<'b>),
-    Two(Ex<'b>, Ex<'b>),
-    Many,
-}
-
-impl<'b> Given<'b> {
-    /// These, and one more.
-    pub fn with(self, x: Ex<'b>) -> Given<'b>
-        ensures { plain_given result ≡ given_with (plain_given self.entry) (plain_ex x.entry) }
-    {
-        match self {
-            Given::Nothing => Given::One(x),
-            Given::One(first) => Given::Two(first, x),
-            Given::Two(_, _) => Given::Many,
-            Given::Many => Given::Many,
-        }
-    }
-}
-
-/// What a call of a predeclared procedure is (section 10.2).
-pub fn word_called<'b>(word: Word, given: Given<'b>) -> Ex<'b>
-    ensures { plain_ex result ≡ word_given (plain_word word) (plain_given given.entry) }
-{
-    match given {
-        Given::One(x) => called_with_one(word, x),
-        Given::Two(x, y) => called_with_two(word, x, y),
-        Given::Nothing => called_otherwise(word),
-        Given::Many => called_otherwise(word),
-    }
-}
-
-fn called_with_one<'b>(word: Word, x: Ex<'b>) -> Ex<'b>
-    ensures { plain_ex result ≡ word_called (plain_word word) (plain_ex x.entry ∷ []) }
-{
-    match word {
-        Word::Abs => value_if(x.ty().is_whole(), TypeRef::Integer),
-        Word::Odd => value_if(x.ty().is_whole(), TypeRef::Boolean),
-        Word::Chr => value_if(x.ty().is_whole(), TypeRef::Char),
-        Word::Ord => value_if(x.ty().is_ordinal(), TypeRef::Integer),
-        Word::Len => length_of(x),
-        Word::Lsl => Ex::Nothing,
-        Word::Asr => Ex::Nothing,
-        Word::Ror => Ex::Nothing,
-        Word::Inc => Ex::Call,
-        Word::Dec => Ex::Call,
-        Word::Incl => Ex::Call,
-        Word::Excl => Ex::Call,
-        Word::Assert => Ex::Call,
-    }
-}
-
-fn called_with_two<'b>(word: Word, x: Ex<'b>, y: Ex<'b>) -> Ex<'b>
-    ensures { plain_ex result ≡ word_called (plain_word word) (plain_ex x.entry ∷ plain_ex y.entry ∷ []) }
-{
-    match word {
-        Word::Lsl => shifted(x, y),
-        Word::Asr => shifted(x, y),
-        Word::Ror => shifted(x, y),
-        Word::Inc => Ex::Call,
-        Word::Dec => Ex::Call,
-        Word::Incl => Ex::Call,
-        Word::Excl => Ex::Call,
-        Word::Assert => Ex::Call,
-        Word::Abs => Ex::Nothing,
-        Word::Odd => Ex::Nothing,
-        Word::Chr => Ex::Nothing,
-        Word::Ord => Ex::Nothing,
-        Word::Len => Ex::Nothing,
-    }
-}
-
-fn shifted<'b>(x: Ex<'b>, y: Ex<'b>) -> Ex<'b>
-    ensures { plain_ex result ≡ value_if (is_whole (ty_of (plain_ex x.entry)) && is_whole (ty_of (plain_ex y.entry))) integer_ty }
-{
-    value_if(x.ty().is_whole() && y.ty().is_whole(), TypeRef::Integer)
-}
-
-fn called_otherwise<'b>(word: Word) -> Ex<'b>
-    ensures { plain_ex result ≡ word_called (plain_word word) [] }
-{
-    match word {
-        Word::Inc => Ex::Call,
-        Word::Dec => Ex::Call,
-        Word::Incl => Ex::Call,
-        Word::Excl => Ex::Call,
-        Word::Assert => Ex::Call,
-        Word::Abs => Ex::Nothing,
-        Word::Odd => Ex::Nothing,
-        Word::Len => Ex::Nothing,
-        Word::Lsl => Ex::Nothing,
-        Word::Asr => Ex::Nothing,
-        Word::Ror => Ex::Nothing,
-        Word::Ord => Ex::Nothing,
-        Word::Chr => Ex::Nothing,
-    }
-}
-
-fn length_of<'b>(x: Ex<'b>) -> Ex<'b>
-    ensures { plain_ex result ≡ length_of (plain_ex x.entry) }
-{
-    match x {
-        Ex::Variable { ty, .. } => value_if(
-            ty.element().is_some() || ty.is_unknown(),
-            TypeRef::Integer,
-        ),
-        _ => Ex::Nothing,
     }
 }

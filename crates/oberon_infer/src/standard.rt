@@ -5,6 +5,25 @@ ghost use Rattle.oberon_infer.specs.Memory.{plain_standard};
 
 use ob_text::Name;
 
+const INTEGER: &[u8] = b"INTEGER";
+const BYTE: &[u8] = b"BYTE";
+const CHAR: &[u8] = b"CHAR";
+const BOOLEAN: &[u8] = b"BOOLEAN";
+const SET: &[u8] = b"SET";
+const ABS: &[u8] = b"ABS";
+const ODD: &[u8] = b"ODD";
+const LEN: &[u8] = b"LEN";
+const LSL: &[u8] = b"LSL";
+const ASR: &[u8] = b"ASR";
+const ROR: &[u8] = b"ROR";
+const ORD: &[u8] = b"ORD";
+const CHR: &[u8] = b"CHR";
+const INC: &[u8] = b"INC";
+const DEC: &[u8] = b"DEC";
+const INCL: &[u8] = b"INCL";
+const EXCL: &[u8] = b"EXCL";
+const ASSERT: &[u8] = b"ASSERT";
+
 /// A predeclared procedure (The Programming Language Oberon-07, section 10.2).
 #[derive(Clone, Copy, Debug, PartialEq, Eq)]
 pub enum Word {
@@ -39,25 +58,44 @@ pub enum Standard {
 pub fn predeclared(name: &Name) -> Option<Standard>
     ensures { option_map plain_standard result ≡ look_up name.now predeclared }
 {
-    match name.as_slice() {
-        b"INTEGER" => Some(Standard::Integer),
-        b"BYTE" => Some(Standard::Byte),
-        b"CHAR" => Some(Standard::Char),
-        b"BOOLEAN" => Some(Standard::Boolean),
-        b"SET" => Some(Standard::Set),
-        b"ABS" => Some(Standard::Word(Word::Abs)),
-        b"ODD" => Some(Standard::Word(Word::Odd)),
-        b"LEN" => Some(Standard::Word(Word::Len)),
-        b"LSL" => Some(Standard::Word(Word::Lsl)),
-        b"ASR" => Some(Standard::Word(Word::Asr)),
-        b"ROR" => Some(Standard::Word(Word::Ror)),
-        b"ORD" => Some(Standard::Word(Word::Ord)),
-        b"CHR" => Some(Standard::Word(Word::Chr)),
-        b"INC" => Some(Standard::Word(Word::Inc)),
-        b"DEC" => Some(Standard::Word(Word::Dec)),
-        b"INCL" => Some(Standard::Word(Word::Incl)),
-        b"EXCL" => Some(Standard::Word(Word::Excl)),
-        b"ASSERT" => Some(Standard::Word(Word::Assert)),
-        _ => None,
+    let name = name.as_slice();
+    if name == INTEGER {
+        Some(Standard::Integer)
+    } else if name == BYTE {
+        Some(Standard::Byte)
+    } else if name == CHAR {
+        Some(Standard::Char)
+    } else if name == BOOLEAN {
+        Some(Standard::Boolean)
+    } else if name == SET {
+        Some(Standard::Set)
+    } else if name == ABS {
+        Some(Standard::Word(Word::Abs))
+    } else if name == ODD {
+        Some(Standard::Word(Word::Odd))
+    } else if name == LEN {
+        Some(Standard::Word(Word::Len))
+    } else if name == LSL {
+        Some(Standard::Word(Word::Lsl))
+    } else if name == ASR {
+        Some(Standard::Word(Word::Asr))
+    } else if name == ROR {
+        Some(Standard::Word(Word::Ror))
+    } else if name == ORD {
+        Some(Standard::Word(Word::Ord))
+    } else if name == CHR {
+        Some(Standard::Word(Word::Chr))
+    } else if name == INC {
+        Some(Standard::Word(Word::Inc))
+    } else if name == DEC {
+        Some(Standard::Word(Word::Dec))
+    } else if name == INCL {
+        Some(Standard::Word(Word::Incl))
+    } else if name == EXCL {
+        Some(Standard::Word(Word::Excl))
+    } else if name == ASSERT {
+        Some(Standard::Word(Word::Assert))
+    } else {
+        None
     }
 }
