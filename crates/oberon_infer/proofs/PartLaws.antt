@@ -1,5 +1,6 @@
 -- The rules, split where the code splits them.
-use Rattle.std.specs.Prelude.{◌≡◌, ℕ, Bool, true, false, ◌&&◌, if◌then◌else◌, not, List, [], ◌∷◌, Option, Some, None, refl}
+use Rattle.std.specs.Prelude.{◌≡◌, ℕ, Bool, true, false, ◌&&◌, if◌then◌else◌, not, List, [], ◌∷◌, Option, Some, None, is_some, refl}
+use Rattle.std.specs.Option.{option_map}
 use Rattle.std.proofs.Common.{ap, sym, ◌∙◌}
 use Rattle.ob_text.specs.declared.span.Span.{Span}
 use Rattle.oberon_tree.specs.declared.leaf.Ident.{Ident}
@@ -151,3 +152,9 @@ pub member_meant_parts : (m : Meaning) (at : Ident) → meant_of_module (ex_of m
 member_meant_parts unknown_meaning at = refl
 member_meant_parts (import_meaning v) at = refl
 member_meant_parts _ at = refl
+
+pub none_is_bad : {X Y : Type 0} (f : X → Y) (o : Option X) (none : Bool) → is_some o ≡ not none → none ≡ is_bad (option_map f o)
+none_is_bad f None true h = refl
+none_is_bad f None false h = absurd cc
+none_is_bad f (Some x) true h = absurd cc
+none_is_bad f (Some x) false h = refl

@@ -55,6 +55,13 @@ impl<'a> Scope<'a> {
         }
     }
 
+    /// The names, in the order of their declarations. Takes no memory.
+    pub fn bindings(&self) -> &IndexMap<Name, Binding<'a>>
+        ensures { result.now ≡ self.now.bindings }
+    {
+        &self.bindings
+    }
+
     /// What a name means here. Takes no memory.
     pub fn look_up(&self, name: &Name) -> Option<&Meaning<'a>>
         ensures { plain_meaning_option result ≡ look_up name.now (plain_scope self.now) }
