@@ -1,8 +1,5 @@
 //! Labels of CASE (The Programming Language Oberon-07, section 9.5).
 ghost use Rattle.std.specs.Prelude.{◌≡◌, ◌∷◌, ◌++◌, [], List, false, MatchOption, MatchResult};
-ghost use Rattle.oberon_scan.specs.declared.token.Symbol.TheVariants as symbols;
-ghost use Rattle.oberon_scan.specs.declared.token.Token.{Token as AnyToken};
-ghost use Rattle.oberon_tree.specs.Tokens.{symbol_token};
 ghost use Rattle.oberon_tree.specs.Print.{print_some, print_each, print_value, print_label_upper, print_label, print_next_label};
 ghost use Rattle.oberon_parse.specs.Expected as want;
 ghost use Rattle.oberon_parse.specs.Tests.{is_literal, is_ident, next_is};
@@ -10,20 +7,11 @@ ghost use Rattle.oberon_parse.specs.Machine.{label_parts};
 ghost use Rattle.oberon_parse.specs.Reading.{ReadsParts, FirstValue, StopsAt, StopsValue};
 
 use crate::name::member;
-use crate::read::{ident, label_literal, need_symbol, symbol};
+use crate::read::{ident, label_literal, symbol};
 use crate::stop::Stop;
-use ob_text::Span;
 use oberon_scan::{Symbol, Token};
 use oberon_tree::{Label, LabelUpper, LabelValue, NextLabel, Qualident};
 use std::alloc::Global;
-
-/// What stands behind the first value of an arm, up to its `:`.
-#[derive(Drop)]
-pub struct Behind {
-    pub upper: Option<LabelUpper>,
-    pub next: Vec<NextLabel>,
-    pub colon: Span,
-}
 
 /// `integer | string | qualident`, if one stands here.
 pub fn first_value(alloc: Global, given: &[Token]) -> Result<Option<(LabelValue, &[Token])>, Stop>
@@ -57,7 +45,7 @@ fn value(alloc: Global, given: &[Token]) -> Result<(LabelValue, &[Token]), Stop>
 }
 
 /// `[".." value]`.
-fn label_upper(alloc: Global, given: &[Token]) -> Result<(Option<LabelUpper>, &[Token]), Stop>
+pub fn label_upper(alloc: Global, given: &[Token]) -> Result<(Option<LabelUpper>, &[Token]), Stop>
     ensures { MatchResult result
         (λ x. ReadsParts (want.some_label_upper ∷ []) 0 given.now (print_some print_label_upper x.0) 0 x.1.now)
         (λ e. StopsAt (want.some_label_upper ∷ []) given.now e) }
@@ -81,7 +69,7 @@ fn label(alloc: Global, given: &[Token]) -> Result<(Label, &[Token]), Stop>
 }
 
 /// `{"," label}`.
-fn more_labels(alloc: Global, given: &[Token]) -> Result<(Vec<NextLabel>, &[Token]), Stop>
+pub fn more_labels(alloc: Global, given: &[Token]) -> Result<(Vec<NextLabel>, &[Token]), Stop>
     ensures { MatchResult result
         (λ x. ReadsParts (want.labels ∷ []) 0 given.now (print_each print_next_label x.0.items) 0 x.1.now)
         (λ e. StopsAt (want.labels ∷ []) given.now e) }
@@ -94,18 +82,4 @@ fn more_labels(alloc: Global, given: &[Token]) -> Result<(Vec<NextLabel>, &[Toke
         rest = after;
     }
     Ok((items, rest))
-}
-
-/// `[".." value] {"," label} ":"`, behind the first value of an arm.
-pub fn rest_of_labels(alloc: Global, given: &[Token]) -> Result<(Behind, &[Token]), Stop>
-    ensures { MatchResult result
-        (λ x. ReadsParts (want.some_label_upper ∷ want.labels ∷ want.symbol symbols.Colon ∷ []) 0 given.now
-        (λ (rest : List AnyToken). print_some print_label_upper x.0.upper
-        (print_each print_next_label x.0.next.items (symbol_token symbols.Colon x.0.colon ∷ rest))) 0 x.1.now)
-        (λ e. StopsAt (want.some_label_upper ∷ want.labels ∷ want.symbol symbols.Colon ∷ []) given.now e) }
-{
-    let (upper, rest) = label_upper(alloc, given)?;
-    let (next, rest) = more_labels(alloc, rest)?;
-    let (colon, rest) = need_symbol(rest, Symbol::Colon)?;
-    Ok((Behind { upper, next, colon }, rest))
 }

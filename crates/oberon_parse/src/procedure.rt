@@ -25,22 +25,10 @@ use oberon_tree::{Body, Formals, Ident, IdentDef, Locals, Procedure, ProcedureIt
 use std::alloc::Global;
 
 /// What stands before the declarations of a procedure, behind PROCEDURE.
-#[derive(Drop)]
-struct Head {
-    name: IdentDef,
-    formals: Option<Formals>,
-    semicolon: Span,
-}
+type Heading = (IdentDef, Option<Formals>, Span);
 
 /// The rest of a procedure, from its declarations to its name.
-#[derive(Drop)]
-struct Rest {
-    locals: Locals,
-    body: Option<Body>,
-    returns: Option<ReturnPart>,
-    end: Span,
-    end_name: Ident,
-}
+type Rest = (Locals, Option<Body>, Option<ReturnPart>, Span, Ident);
 
 /// `{procedure ";"}`.
 pub fn procedures(
@@ -83,18 +71,8 @@ fn procedure(
     let (found, rest) = heading(alloc, given, levels)?;
     let (behind, rest) = rest_of_procedure(alloc, rest, levels)?;
     let (separator, rest) = need_symbol(rest, Symbol::Semicolon)?;
-    let Head {
-        name,
-        formals,
-        semicolon,
-    } = found;
-    let Rest {
-        locals,
-        body,
-        returns,
-        end,
-        end_name,
-    } = behind;
+    let (name, formals, semicolon) = found;
+    let (locals, body, returns, end, end_name) = behind;
     let procedure = Procedure {
         word: span,
         name,
@@ -114,26 +92,21 @@ fn procedure(
 }
 
 /// `identdef [formals] ";"`.
-fn heading(alloc: Global, given: &[Token], levels: usize) -> Result<(Head, &[Token]), Stop>
+fn heading(alloc: Global, given: &[Token], levels: usize) -> Result<(Heading, &[Token]), Stop>
     ensures { MatchResult result
         (λ x. ReadsParts (ident_def_parts ++ want.some_formals levels ∷ want.symbol symbols.Semicolon ∷ []) levels
         given.now
-        (λ (rest : List AnyToken). print_ident_def x.0.name
-        (print_some print_formals (option_map formals_tree x.0.formals)
-        (symbol_token symbols.Semicolon x.0.semicolon ∷ rest)))
-        (depth_of_some depth_of_formals (option_map formals_tree x.0.formals)) x.1.now)
+        (λ (rest : List AnyToken). print_ident_def x.0.0
+        (print_some print_formals (option_map formals_tree x.0.1)
+        (symbol_token symbols.Semicolon x.0.2 ∷ rest)))
+        (depth_of_some depth_of_formals (option_map formals_tree x.0.1)) x.1.now)
         (λ e. StopsAt (ident_def_parts ++ want.some_formals levels ∷ want.symbol symbols.Semicolon ∷ [])
         given.now e) }
 {
     let (name, rest) = ident_def(alloc, given)?;
     let (formals, rest) = formals(alloc, rest, levels)?;
     let (semicolon, rest) = need_symbol(rest, Symbol::Semicolon)?;
-    let heading = Head {
-        name,
-        formals,
-        semicolon,
-    };
-    Ok((heading, rest))
+    Ok(((name, formals, semicolon), rest))
 }
 
 /// `locals [BEGIN stmts] [RETURN expr] END ident`.
@@ -146,13 +119,13 @@ fn rest_of_procedure(
         (λ x. ReadsParts
         (locals_parts levels ++ want.some_body levels ∷ want.some_return levels
         ∷ want.word words.End ∷ want.ident ∷ []) levels given.now
-        (λ (rest : List AnyToken). print_locals (locals_tree x.0.locals)
-        (print_some print_body (option_map body_tree x.0.body)
-        (print_some print_return (option_map return_tree x.0.returns)
-        (word_token words.End x.0.end ∷ ident_token x.0.end_name ∷ rest))))
-        (max (depth_of_locals (locals_tree x.0.locals))
-        (max (depth_of_some depth_of_body (option_map body_tree x.0.body))
-        (depth_of_some depth_of_return (option_map return_tree x.0.returns)))) x.1.now)
+        (λ (rest : List AnyToken). print_locals (locals_tree x.0.0)
+        (print_some print_body (option_map body_tree x.0.1)
+        (print_some print_return (option_map return_tree x.0.2)
+        (word_token words.End x.0.3 ∷ ident_token x.0.4 ∷ rest))))
+        (max (depth_of_locals (locals_tree x.0.0))
+        (max (depth_of_some depth_of_body (option_map body_tree x.0.1))
+        (depth_of_some depth_of_return (option_map return_tree x.0.2)))) x.1.now)
         (λ e. StopsAt
         (locals_parts levels ++ want.some_body levels ∷ want.some_return levels
         ∷ want.word words.End ∷ want.ident ∷ []) given.now e) }
@@ -160,28 +133,9 @@ fn rest_of_procedure(
     let (locals, rest) = locals(alloc, given, levels)?;
     let (body, rest) = body(alloc, rest, levels)?;
     let (returns, rest) = returns(alloc, rest, levels)?;
-    let (ending, rest) = ending(alloc, rest)?;
-    let (end, end_name) = ending;
-    let found = Rest {
-        locals,
-        body,
-        returns,
-        end,
-        end_name,
-    };
-    Ok((found, rest))
-}
-
-/// `END ident`.
-fn ending(alloc: Global, given: &[Token]) -> Result<((Span, Ident), &[Token]), Stop>
-    ensures { MatchResult result
-        (λ x. ReadsParts (want.word words.End ∷ want.ident ∷ []) 0 given.now
-        (λ (rest : List AnyToken). word_token words.End x.0.0 ∷ ident_token x.0.1 ∷ rest) 0 x.1.now)
-        (λ e. StopsAt (want.word words.End ∷ want.ident ∷ []) given.now e) }
-{
-    let (end, rest) = need_word(given, Word::End)?;
-    let (name, rest) = need_ident(alloc, rest)?;
-    Ok(((end, name), rest))
+    let (end, rest) = need_word(rest, Word::End)?;
+    let (end_name, rest) = need_ident(alloc, rest)?;
+    Ok(((locals, body, returns, end, end_name), rest))
 }
 
 /// `[BEGIN stmts]`.

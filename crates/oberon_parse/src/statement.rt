@@ -2,18 +2,17 @@
 //! may be opened.
 ghost use Rattle.std.specs.Prelude.{◌≡◌, ◌∷◌, ◌++◌, [], List, max, suc, MatchOption, MatchResult};
 ghost use Rattle.oberon_scan.specs.declared.token.Word.TheVariants as words;
-ghost use Rattle.oberon_scan.specs.declared.token.Symbol.TheVariants as symbols;
 ghost use Rattle.oberon_scan.specs.declared.token.Token.{Token as AnyToken};
-ghost use Rattle.oberon_tree.specs.Tokens.{symbol_token, word_token, ident_token};
+ghost use Rattle.oberon_tree.specs.Tokens.{word_token, ident_token};
 ghost use Rattle.oberon_tree.specs.Print.{print_expr, print_statements, print_more_statements, print_statement, print_elsifs, print_else, print_arm, print_more_arms, print_step};
 ghost use Rattle.oberon_tree.specs.Levels.{depth_of_expr, depth_of_statements, depth_of_more_statements, depth_of_statement, depth_of_elsifs, depth_of_else, depth_of_arm, depth_of_more_arms, depth_of_step};
 ghost use Rattle.oberon_tree.specs.Memory.{expr_tree, statements_tree, more_statements_list, statement_tree, elsifs_list, else_option, arm_tree, more_arms_list, step_option};
 ghost use Rattle.oberon_parse.specs.Expected as want;
-ghost use Rattle.oberon_parse.specs.Machine.{expr_parts, statements_parts, guarded_parts};
+ghost use Rattle.oberon_parse.specs.Machine.{statements_parts, guarded_parts};
 ghost use Rattle.oberon_parse.specs.Reading.{ReadsParts, StopsAt};
 
 use crate::expression::{expr, selectors};
-use crate::label::{Behind, first_value, rest_of_labels};
+use crate::label::{first_value, label_upper, more_labels};
 use crate::read::{ident, need_ident, need_symbol, need_word, one_less, symbol, word};
 use crate::stop::Stop;
 use ob_text::Span;
@@ -23,38 +22,6 @@ use oberon_tree::{
     NextArm, NextStatement, Repeat, Statement, Statements, Step, While,
 };
 use std::alloc::Global;
-
-/// A condition, THEN or DO, and the statements behind it.
-#[derive(Drop)]
-struct Parts {
-    condition: Expr,
-    body_word: Span,
-    body: Statements,
-}
-
-/// The arms of a CASE.
-#[derive(Drop)]
-struct Choices {
-    first: Arm,
-    rest: Vec<NextArm>,
-}
-
-/// The variable of a FOR, with its first value.
-#[derive(Drop)]
-struct Counter {
-    variable: Ident,
-    becomes: Span,
-    from: Expr,
-}
-
-/// What stands behind these, from TO to DO: the last value and the step.
-#[derive(Drop)]
-struct Range {
-    to_word: Span,
-    limit: Expr,
-    step: Option<Step>,
-    body_word: Span,
-}
 
 /// `stmts = stmt {";" stmt}`.
 #[cycle(statement)]
@@ -168,24 +135,19 @@ fn guarded(
     given: &[Token],
     joint: Word,
     levels: usize,
-) -> Result<(Parts, &[Token]), Stop>
+) -> Result<((Expr, Span, Statements), &[Token]), Stop>
     ensures { MatchResult result
         (λ x. ReadsParts (guarded_parts joint levels) levels given.now
-        (λ (rest : List AnyToken). print_expr (expr_tree x.0.condition)
-        (word_token joint x.0.body_word ∷ print_statements (statements_tree x.0.body) rest))
-        (max (depth_of_expr (expr_tree x.0.condition)) (depth_of_statements (statements_tree x.0.body)))
+        (λ (rest : List AnyToken). print_expr (expr_tree x.0.0)
+        (word_token joint x.0.1 ∷ print_statements (statements_tree x.0.2) rest))
+        (max (depth_of_expr (expr_tree x.0.0)) (depth_of_statements (statements_tree x.0.2)))
         x.1.now)
         (λ e. StopsAt (guarded_parts joint levels) given.now e) }
 {
     let (condition, rest) = expr(alloc, given, levels)?;
-    let (body_word, rest) = need_word(rest, joint)?;
+    let (span, rest) = need_word(rest, joint)?;
     let (body, rest) = statements(alloc, rest, levels)?;
-    let parts = Parts {
-        condition,
-        body_word,
-        body,
-    };
-    Ok((parts, rest))
+    Ok(((condition, span, body), rest))
 }
 
 /// `{ELSIF expr THEN stmts}`, or the same with DO.
@@ -205,11 +167,7 @@ fn elsifs(
     let mut rest = given;
     while let Some((span, after)) = word(rest, Word::Elsif) {
         let (parts, after) = guarded(alloc, after, joint, levels)?;
-        let Parts {
-            condition,
-            body_word,
-            body,
-        } = parts;
+        let (condition, body_word, body) = parts;
         items.push(Guarded {
             word: span,
             condition,
@@ -258,11 +216,7 @@ fn conditional(
     let (next, rest) = elsifs(alloc, rest, Word::Then, levels)?;
     let (other, rest) = otherwise(alloc, rest, levels)?;
     let (end, rest) = need_word(rest, Word::End)?;
-    let Parts {
-        condition,
-        body_word,
-        body,
-    } = parts;
+    let (condition, body_word, body) = parts;
     let first = Guarded {
         word: span,
         condition,
@@ -295,33 +249,19 @@ fn choice(
 {
     let (value, rest) = expr(alloc, given, levels)?;
     let (of, rest) = need_word(rest, Word::Of)?;
-    let (arms, rest) = arms(alloc, rest, levels)?;
+    let (first, rest) = arm(alloc, rest, levels)?;
+    let (next, rest) = more_arms(alloc, rest, levels)?;
     let (end, rest) = need_word(rest, Word::End)?;
     let case = Case {
         word: span,
         value,
         of,
-        first: arms.first,
-        rest: arms.rest,
+        first,
+        rest: next,
         end,
     };
     let boxed = Box::new(alloc, case)?;
     Ok((Statement::Case(boxed), rest))
-}
-
-/// `arm {"|" arm}`.
-#[cycle(statement)]
-fn arms(alloc: Global, given: &[Token], levels: usize) -> Result<(Choices, &[Token]), Stop>
-    ensures { MatchResult result
-        (λ x. ReadsParts (want.arm levels ∷ want.arms levels ∷ []) levels given.now
-        (λ (rest : List AnyToken). print_arm (arm_tree x.0.first) (print_more_arms (more_arms_list x.0.rest.items) rest))
-        (max (depth_of_arm (arm_tree x.0.first)) (depth_of_more_arms (more_arms_list x.0.rest.items))) x.1.now)
-        (λ e. StopsAt (want.arm levels ∷ want.arms levels ∷ []) given.now e) }
-{
-    let (first, rest) = arm(alloc, given, levels)?;
-    let (next, rest) = more_arms(alloc, rest, levels)?;
-    let arms = Choices { first, rest: next };
-    Ok((arms, rest))
 }
 
 /// `arm = [label {"," label} ":" stmts]`.
@@ -335,9 +275,10 @@ fn arm(alloc: Global, given: &[Token], levels: usize) -> Result<(Arm, &[Token]),
     let Some((first, rest)) = first_value(alloc, given)? else {
         return Ok((Arm::Empty, given));
     };
-    let (behind, rest) = rest_of_labels(alloc, rest)?;
+    let (upper, rest) = label_upper(alloc, rest)?;
+    let (next, rest) = more_labels(alloc, rest)?;
+    let (colon, rest) = need_symbol(rest, Symbol::Colon)?;
     let (body, rest) = statements(alloc, rest, levels)?;
-    let Behind { upper, next, colon } = behind;
     let labels = Labels {
         first: Label { first, upper },
         rest: next,
@@ -389,11 +330,7 @@ fn repetition(
     let (parts, rest) = guarded(alloc, given, Word::Do, levels)?;
     let (next, rest) = elsifs(alloc, rest, Word::Do, levels)?;
     let (end, rest) = need_word(rest, Word::End)?;
-    let Parts {
-        condition,
-        body_word,
-        body,
-    } = parts;
+    let (condition, body_word, body) = parts;
     let first = Guarded {
         word: span,
         condition,
@@ -449,68 +386,29 @@ fn counted(
         (print_statement (statement_tree x.0)) (depth_of_statement (statement_tree x.0)) x.1.now)
         (λ e. StopsAt (want.statement (suc levels) ∷ []) (word_token words.For span ∷ given.now) e) }
 {
-    let (start, rest) = start(alloc, given, levels)?;
-    let (bound, rest) = bound(alloc, rest, levels)?;
+    let (variable, rest) = need_ident(alloc, given)?;
+    let (becomes, rest) = need_symbol(rest, Symbol::Becomes)?;
+    let (from, rest) = expr(alloc, rest, levels)?;
+    let (to_word, rest) = need_word(rest, Word::To)?;
+    let (limit, rest) = expr(alloc, rest, levels)?;
+    let (step, rest) = step(alloc, rest, levels)?;
+    let (body_word, rest) = need_word(rest, Word::Do)?;
     let (body, rest) = statements(alloc, rest, levels)?;
     let (end, rest) = need_word(rest, Word::End)?;
     let counted = For {
         word: span,
-        variable: start.variable,
-        becomes: start.becomes,
-        from: start.from,
-        to_word: bound.to_word,
-        limit: bound.limit,
-        step: bound.step,
-        body_word: bound.body_word,
+        variable,
+        becomes,
+        from,
+        to_word,
+        limit,
+        step,
+        body_word,
         body,
         end,
     };
     let boxed = Box::new(alloc, counted)?;
     Ok((Statement::For(boxed), rest))
-}
-
-/// `ident ":=" expr`, behind FOR.
-fn start(alloc: Global, given: &[Token], levels: usize) -> Result<(Counter, &[Token]), Stop>
-    ensures { MatchResult result
-        (λ x. ReadsParts (want.ident ∷ want.symbol symbols.Becomes ∷ expr_parts levels) levels given.now
-        (λ (rest : List AnyToken). ident_token x.0.variable
-        ∷ symbol_token symbols.Becomes x.0.becomes ∷ print_expr (expr_tree x.0.from) rest)
-        (depth_of_expr (expr_tree x.0.from)) x.1.now)
-        (λ e. StopsAt (want.ident ∷ want.symbol symbols.Becomes ∷ expr_parts levels) given.now e) }
-{
-    let (variable, rest) = need_ident(alloc, given)?;
-    let (becomes, rest) = need_symbol(rest, Symbol::Becomes)?;
-    let (from, rest) = expr(alloc, rest, levels)?;
-    let start = Counter {
-        variable,
-        becomes,
-        from,
-    };
-    Ok((start, rest))
-}
-
-/// `TO expr [BY expr] DO`.
-fn bound(alloc: Global, given: &[Token], levels: usize) -> Result<(Range, &[Token]), Stop>
-    ensures { MatchResult result
-        (λ x. ReadsParts
-        (want.word words.To ∷ expr_parts levels ++ want.some_step levels ∷ want.word words.Do ∷ []) levels given.now
-        (λ (rest : List AnyToken). word_token words.To x.0.to_word ∷ print_expr (expr_tree x.0.limit)
-        (print_step (step_option x.0.step) (word_token words.Do x.0.body_word ∷ rest)))
-        (max (depth_of_expr (expr_tree x.0.limit)) (depth_of_step (step_option x.0.step))) x.1.now)
-        (λ e. StopsAt
-        (want.word words.To ∷ expr_parts levels ++ want.some_step levels ∷ want.word words.Do ∷ []) given.now e) }
-{
-    let (to_word, rest) = need_word(given, Word::To)?;
-    let (limit, rest) = expr(alloc, rest, levels)?;
-    let (step, rest) = step(alloc, rest, levels)?;
-    let (body_word, rest) = need_word(rest, Word::Do)?;
-    let bound = Range {
-        to_word,
-        limit,
-        step,
-        body_word,
-    };
-    Ok((bound, rest))
 }
 
 /// `[BY expr]`.

@@ -5,7 +5,7 @@ use std::alloc::{AllocError, AllocFailed};
 
 /// Why a part of a module wasn't read: the tokens stop being one before the last so many, or there was
 /// no memory.
-#[derive(Clone, Copy)]
+#[derive(Clone, Copy, Debug)]
 pub enum Stop {
     Left(usize),
     NoMemory,

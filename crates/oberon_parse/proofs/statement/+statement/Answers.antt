@@ -187,50 +187,36 @@ conditional-returns t c =
 pub choice-returns-in_err-value : goal.choice-returns-in_err-value
 choice-returns-in_err-value t c =
     exits _ _ c.from_residual.result c.in_err-value.field-0.0 c.from_residual.ensures.1
-    (via (expr_parts c.args.levels ++ []) (want.statement (suc c.args.levels) ∷ []) _ (word_token words.Case c.args.span ∷ c.args.given.now) _ (λ s. (want.word words.Of ∷ (want.arm c.args.levels ∷ (want.arms c.args.levels ∷ (want.word words.End ∷ s))))) (λ s. entered (want.statement (suc c.args.levels)) (expr_parts c.args.levels ++ (want.word words.Of ∷ (want.arm c.args.levels ∷ (want.arms c.args.levels ∷ (want.word words.End ∷ []))))) s _ _ _ refl refl) c.in_err-value.ensures)
+    (via (expr_parts c.args.levels ++ []) ((want.statement (suc c.args.levels)) ∷ []) _ (word_token words.Case c.args.span ∷ c.args.given.now) _ (λ s. (want.word words.Of ∷ (want.arm c.args.levels ∷ (want.arms c.args.levels ∷ (want.word words.End ∷ s))))) (λ s. entered (want.statement (suc c.args.levels)) (expr_parts c.args.levels ++ (want.word words.Of ∷ (want.arm c.args.levels ∷ (want.arms c.args.levels ∷ (want.word words.End ∷ []))))) s _ _ _ refl refl) c.in_err-value.ensures)
 
 pub choice-returns-in_err-of : goal.choice-returns-in_err-of
 choice-returns-in_err-of t c =
     exits _ _ c.from_residual-in_err-of.result c.in_err-of.field-0.0 c.from_residual-in_err-of.ensures.1
-    (via (want.word words.Of ∷ []) (want.statement (suc c.args.levels) ∷ []) _ (word_token words.Case c.args.span ∷ c.args.given.now) _ (λ s. (want.arm c.args.levels ∷ (want.arms c.args.levels ∷ (want.word words.End ∷ s)))) (λ s. entered (want.statement (suc c.args.levels)) (expr_parts c.args.levels ++ (want.word words.Of ∷ (want.arm c.args.levels ∷ (want.arms c.args.levels ∷ (want.word words.End ∷ []))))) s _ _ _ refl refl ∙ c.in_ok-value.ensures.moves (want.word words.Of ∷ (want.arm c.args.levels ∷ (want.arms c.args.levels ∷ (want.word words.End ∷ s))))) c.in_err-of.ensures)
+    (via (want.word words.Of ∷ []) ((want.statement (suc c.args.levels)) ∷ []) _ (word_token words.Case c.args.span ∷ c.args.given.now) _ (λ s. (want.arm c.args.levels ∷ (want.arms c.args.levels ∷ (want.word words.End ∷ s)))) (λ s. entered (want.statement (suc c.args.levels)) (expr_parts c.args.levels ++ (want.word words.Of ∷ (want.arm c.args.levels ∷ (want.arms c.args.levels ∷ (want.word words.End ∷ []))))) s _ _ _ refl refl ∙ c.in_ok-value.ensures.moves (want.word words.Of ∷ (want.arm c.args.levels ∷ (want.arms c.args.levels ∷ (want.word words.End ∷ s))))) c.in_err-of.ensures)
 
-pub choice-returns-in_err-arms : goal.choice-returns-in_err-arms
-choice-returns-in_err-arms t c =
-    exits _ _ c.from_residual-in_err-arms.result c.in_err-arms.field-0.0 c.from_residual-in_err-arms.ensures.1
-    (via (want.arm c.args.levels ∷ (want.arms c.args.levels ∷ [])) (want.statement (suc c.args.levels) ∷ []) _ (word_token words.Case c.args.span ∷ c.args.given.now) _ (λ s. (want.word words.End ∷ s)) (λ s. entered (want.statement (suc c.args.levels)) (expr_parts c.args.levels ++ (want.word words.Of ∷ (want.arm c.args.levels ∷ (want.arms c.args.levels ∷ (want.word words.End ∷ []))))) s _ _ _ refl refl ∙ c.in_ok-value.ensures.moves (want.word words.Of ∷ (want.arm c.args.levels ∷ (want.arms c.args.levels ∷ (want.word words.End ∷ s)))) ∙ after_word words.Of (want.arm c.args.levels ∷ (want.arms c.args.levels ∷ (want.word words.End ∷ s))) c.in_ok-of.ensures) c.in_err-arms.ensures)
+pub choice-returns-in_err-first : goal.choice-returns-in_err-first
+choice-returns-in_err-first t c =
+    exits _ _ c.from_residual-in_err-first.result c.in_err-first.field-0.0 c.from_residual-in_err-first.ensures.1
+    (via (want.arm c.args.levels ∷ []) ((want.statement (suc c.args.levels)) ∷ []) _ (word_token words.Case c.args.span ∷ c.args.given.now) _ (λ s. (want.arms c.args.levels ∷ (want.word words.End ∷ s))) (λ s. entered (want.statement (suc c.args.levels)) (expr_parts c.args.levels ++ (want.word words.Of ∷ (want.arm c.args.levels ∷ (want.arms c.args.levels ∷ (want.word words.End ∷ []))))) s _ _ _ refl refl ∙ c.in_ok-value.ensures.moves (want.word words.Of ∷ (want.arm c.args.levels ∷ (want.arms c.args.levels ∷ (want.word words.End ∷ s)))) ∙ after_word words.Of (want.arm c.args.levels ∷ (want.arms c.args.levels ∷ (want.word words.End ∷ s))) c.in_ok-of.ensures) c.in_err-first.ensures)
+
+pub choice-returns-in_err-next : goal.choice-returns-in_err-next
+choice-returns-in_err-next t c =
+    exits _ _ c.from_residual-in_err-next.result c.in_err-next.field-0.0 c.from_residual-in_err-next.ensures.1
+    (via (want.arms c.args.levels ∷ []) ((want.statement (suc c.args.levels)) ∷ []) _ (word_token words.Case c.args.span ∷ c.args.given.now) _ (λ s. (want.word words.End ∷ s)) (λ s. entered (want.statement (suc c.args.levels)) (expr_parts c.args.levels ++ (want.word words.Of ∷ (want.arm c.args.levels ∷ (want.arms c.args.levels ∷ (want.word words.End ∷ []))))) s _ _ _ refl refl ∙ c.in_ok-value.ensures.moves (want.word words.Of ∷ (want.arm c.args.levels ∷ (want.arms c.args.levels ∷ (want.word words.End ∷ s)))) ∙ after_word words.Of (want.arm c.args.levels ∷ (want.arms c.args.levels ∷ (want.word words.End ∷ s))) c.in_ok-of.ensures ∙ c.in_ok-first.ensures.moves (want.arms c.args.levels ∷ (want.word words.End ∷ s))) c.in_err-next.ensures)
 
 pub choice-returns-in_err-end : goal.choice-returns-in_err-end
 choice-returns-in_err-end t c =
     exits _ _ c.from_residual-in_err-end.result c.in_err-end.field-0.0 c.from_residual-in_err-end.ensures.1
-    (via (want.word words.End ∷ []) (want.statement (suc c.args.levels) ∷ []) _ (word_token words.Case c.args.span ∷ c.args.given.now) _ (λ s. s) (λ s. entered (want.statement (suc c.args.levels)) (expr_parts c.args.levels ++ (want.word words.Of ∷ (want.arm c.args.levels ∷ (want.arms c.args.levels ∷ (want.word words.End ∷ []))))) s _ _ _ refl refl ∙ c.in_ok-value.ensures.moves (want.word words.Of ∷ (want.arm c.args.levels ∷ (want.arms c.args.levels ∷ (want.word words.End ∷ s)))) ∙ after_word words.Of (want.arm c.args.levels ∷ (want.arms c.args.levels ∷ (want.word words.End ∷ s))) c.in_ok-of.ensures ∙ c.in_ok-arms.ensures.moves (want.word words.End ∷ s)) c.in_err-end.ensures)
+    (via (want.word words.End ∷ []) ((want.statement (suc c.args.levels)) ∷ []) _ (word_token words.Case c.args.span ∷ c.args.given.now) _ (λ s. s) (λ s. entered (want.statement (suc c.args.levels)) (expr_parts c.args.levels ++ (want.word words.Of ∷ (want.arm c.args.levels ∷ (want.arms c.args.levels ∷ (want.word words.End ∷ []))))) s _ _ _ refl refl ∙ c.in_ok-value.ensures.moves (want.word words.Of ∷ (want.arm c.args.levels ∷ (want.arms c.args.levels ∷ (want.word words.End ∷ s)))) ∙ after_word words.Of (want.arm c.args.levels ∷ (want.arms c.args.levels ∷ (want.word words.End ∷ s))) c.in_ok-of.ensures ∙ c.in_ok-first.ensures.moves (want.arms c.args.levels ∷ (want.word words.End ∷ s)) ∙ c.in_ok-next.ensures.moves (want.word words.End ∷ s)) c.in_err-end.ensures)
 
 pub choice-returns : goal.choice-returns
 choice-returns t c =
     rw (c.in_ok-boxed.ensures.ok, case_made _ _ _ _ _ _) (record {
-      spelled = onto refl (behind c.in_ok-value.ensures (onto c.in_ok-of.ensures (behind c.in_ok-arms.ensures (onto c.in_ok-end.ensures refl))));
-      moves = λ s. entered (want.statement (suc c.args.levels)) (expr_parts c.args.levels ++ (want.word words.Of ∷ (want.arm c.args.levels ∷ (want.arms c.args.levels ∷ (want.word words.End ∷ []))))) s _ _ _ refl refl ∙ c.in_ok-value.ensures.moves (want.word words.Of ∷ (want.arm c.args.levels ∷ (want.arms c.args.levels ∷ (want.word words.End ∷ s)))) ∙ after_word words.Of (want.arm c.args.levels ∷ (want.arms c.args.levels ∷ (want.word words.End ∷ s))) c.in_ok-of.ensures ∙ c.in_ok-arms.ensures.moves (want.word words.End ∷ s) ∙ after_word words.End s c.in_ok-end.ensures;
-      within = omega (arith, c.in_ok-value.ensures.within, c.in_ok-arms.ensures.within);
-      shorter = omega (arith, c.in_ok-value.ensures.shorter, fewer c.in_ok-of.ensures, c.in_ok-arms.ensures.shorter, fewer c.in_ok-end.ensures);
+      spelled = onto refl (behind c.in_ok-value.ensures (onto c.in_ok-of.ensures (behind c.in_ok-first.ensures (behind c.in_ok-next.ensures (onto c.in_ok-end.ensures refl)))));
+      moves = λ s. entered (want.statement (suc c.args.levels)) (expr_parts c.args.levels ++ (want.word words.Of ∷ (want.arm c.args.levels ∷ (want.arms c.args.levels ∷ (want.word words.End ∷ []))))) s _ _ _ refl refl ∙ c.in_ok-value.ensures.moves (want.word words.Of ∷ (want.arm c.args.levels ∷ (want.arms c.args.levels ∷ (want.word words.End ∷ s)))) ∙ after_word words.Of (want.arm c.args.levels ∷ (want.arms c.args.levels ∷ (want.word words.End ∷ s))) c.in_ok-of.ensures ∙ c.in_ok-first.ensures.moves (want.arms c.args.levels ∷ (want.word words.End ∷ s)) ∙ c.in_ok-next.ensures.moves (want.word words.End ∷ s) ∙ after_word words.End s c.in_ok-end.ensures;
+      within = omega (arith, c.in_ok-value.ensures.within, c.in_ok-first.ensures.within, c.in_ok-next.ensures.within);
+      shorter = omega (arith, c.in_ok-value.ensures.shorter, fewer c.in_ok-of.ensures, c.in_ok-first.ensures.shorter, c.in_ok-next.ensures.shorter, fewer c.in_ok-end.ensures);
     })
-
-pub arms-returns-in_err-first : goal.arms-returns-in_err-first
-arms-returns-in_err-first t c =
-    exits _ _ c.from_residual.result c.in_err-first.field-0.0 c.from_residual.ensures.1
-    (via (want.arm c.args.levels ∷ []) (want.arm c.args.levels ∷ (want.arms c.args.levels ∷ [])) _ c.args.given.now _ (λ s. (want.arms c.args.levels ∷ s)) (λ s. refl) c.in_err-first.ensures)
-
-pub arms-returns-in_err-next : goal.arms-returns-in_err-next
-arms-returns-in_err-next t c =
-    exits _ _ c.from_residual-in_err-next.result c.in_err-next.field-0.0 c.from_residual-in_err-next.ensures.1
-    (via (want.arms c.args.levels ∷ []) (want.arm c.args.levels ∷ (want.arms c.args.levels ∷ [])) _ c.args.given.now _ (λ s. s) (λ s. c.in_ok-first.ensures.moves (want.arms c.args.levels ∷ s)) c.in_err-next.ensures)
-
-pub arms-returns : goal.arms-returns
-arms-returns t c =
-    record {
-      spelled = behind c.in_ok-first.ensures (behind c.in_ok-next.ensures refl);
-      moves = λ s. c.in_ok-first.ensures.moves (want.arms c.args.levels ∷ s) ∙ c.in_ok-next.ensures.moves s;
-      within = omega (arith, c.in_ok-first.ensures.within, c.in_ok-next.ensures.within);
-      shorter = omega (arith, c.in_ok-first.ensures.shorter, c.in_ok-next.ensures.shorter);
-    }
 
 pub arm-returns-in_default : goal.arm-returns-in_default
 arm-returns-in_default t c =
@@ -246,26 +232,38 @@ pub arm-returns-in_err-first : goal.arm-returns-in_err-first
 arm-returns-in_err-first t c =
     exits _ _ c.from_residual.result c.in_err-first.field-0.0 c.from_residual.ensures.1 (c.in_err-first.ensures.arm c.args.levels)
 
-pub arm-returns-in_err-behind : goal.arm-returns-in_err-behind
-arm-returns-in_err-behind t c =
+pub arm-returns-in_err-upper : goal.arm-returns-in_err-upper
+arm-returns-in_err-upper t c =
     let h = rw c.in-Some.is at c.in_ok-first.ensures in
-    exits _ _ c.from_residual-in_err-behind.result c.in_err-behind.field-0.0 c.from_residual-in_err-behind.ensures.1
-    (via (want.some_label_upper ∷ (want.labels ∷ (want.symbol symbols.Colon ∷ []))) (want.arm c.args.levels ∷ []) _ c.args.given.now _ (λ s. (statements_parts c.args.levels ++ s)) (λ s. h.enters c.args.levels s) c.in_err-behind.ensures)
+    exits _ _ c.from_residual-in_err-upper.result c.in_err-upper.field-0.0 c.from_residual-in_err-upper.ensures.1
+    (via (want.some_label_upper ∷ []) ((want.arm c.args.levels) ∷ []) _ c.args.given.now _ (λ s. (want.labels ∷ (want.symbol symbols.Colon ∷ (statements_parts c.args.levels ++ s)))) (λ s. h.enters c.args.levels s) c.in_err-upper.ensures)
+
+pub arm-returns-in_err-next : goal.arm-returns-in_err-next
+arm-returns-in_err-next t c =
+    let h = rw c.in-Some.is at c.in_ok-first.ensures in
+    exits _ _ c.from_residual-in_err-next.result c.in_err-next.field-0.0 c.from_residual-in_err-next.ensures.1
+    (via (want.labels ∷ []) ((want.arm c.args.levels) ∷ []) _ c.args.given.now _ (λ s. (want.symbol symbols.Colon ∷ (statements_parts c.args.levels ++ s))) (λ s. h.enters c.args.levels s ∙ c.in_ok-upper.ensures.moves (want.labels ∷ (want.symbol symbols.Colon ∷ (statements_parts c.args.levels ++ s)))) c.in_err-next.ensures)
+
+pub arm-returns-in_err-colon : goal.arm-returns-in_err-colon
+arm-returns-in_err-colon t c =
+    let h = rw c.in-Some.is at c.in_ok-first.ensures in
+    exits _ _ c.from_residual-in_err-colon.result c.in_err-colon.field-0.0 c.from_residual-in_err-colon.ensures.1
+    (via (want.symbol symbols.Colon ∷ []) ((want.arm c.args.levels) ∷ []) _ c.args.given.now _ (λ s. (statements_parts c.args.levels ++ s)) (λ s. h.enters c.args.levels s ∙ c.in_ok-upper.ensures.moves (want.labels ∷ (want.symbol symbols.Colon ∷ (statements_parts c.args.levels ++ s))) ∙ c.in_ok-next.ensures.moves (want.symbol symbols.Colon ∷ (statements_parts c.args.levels ++ s))) c.in_err-colon.ensures)
 
 pub arm-returns-in_err-body : goal.arm-returns-in_err-body
 arm-returns-in_err-body t c =
     let h = rw c.in-Some.is at c.in_ok-first.ensures in
     exits _ _ c.from_residual-in_err-body.result c.in_err-body.field-0.0 c.from_residual-in_err-body.ensures.1
-    (via (statements_parts c.args.levels ++ []) (want.arm c.args.levels ∷ []) _ c.args.given.now _ (λ s. s) (λ s. h.enters c.args.levels s ∙ c.in_ok-behind.ensures.moves (statements_parts c.args.levels ++ s)) c.in_err-body.ensures)
+    (via (statements_parts c.args.levels ++ []) ((want.arm c.args.levels) ∷ []) _ c.args.given.now _ (λ s. s) (λ s. h.enters c.args.levels s ∙ c.in_ok-upper.ensures.moves (want.labels ∷ (want.symbol symbols.Colon ∷ (statements_parts c.args.levels ++ s))) ∙ c.in_ok-next.ensures.moves (want.symbol symbols.Colon ∷ (statements_parts c.args.levels ++ s)) ∙ after_symbol symbols.Colon (statements_parts c.args.levels ++ s) c.in_ok-colon.ensures) c.in_err-body.ensures)
 
 pub arm-returns : goal.arm-returns
 arm-returns t c =
     let h = rw c.in-Some.is at c.in_ok-first.ensures in
     record {
-      spelled = first_then h (behind c.in_ok-behind.ensures (behind c.in_ok-body.ensures refl));
-      moves = λ s. h.enters c.args.levels s ∙ c.in_ok-behind.ensures.moves (statements_parts c.args.levels ++ s) ∙ c.in_ok-body.ensures.moves s;
-      within = omega (arith, c.in_ok-behind.ensures.within, c.in_ok-body.ensures.within);
-      shorter = omega (arith, h.shorter, c.in_ok-behind.ensures.shorter, c.in_ok-body.ensures.shorter);
+      spelled = first_then h (behind c.in_ok-upper.ensures (behind c.in_ok-next.ensures (onto c.in_ok-colon.ensures (behind c.in_ok-body.ensures refl))));
+      moves = λ s. h.enters c.args.levels s ∙ c.in_ok-upper.ensures.moves (want.labels ∷ (want.symbol symbols.Colon ∷ (statements_parts c.args.levels ++ s))) ∙ c.in_ok-next.ensures.moves (want.symbol symbols.Colon ∷ (statements_parts c.args.levels ++ s)) ∙ after_symbol symbols.Colon (statements_parts c.args.levels ++ s) c.in_ok-colon.ensures ∙ c.in_ok-body.ensures.moves s;
+      within = omega (arith, c.in_ok-upper.ensures.within, c.in_ok-next.ensures.within, c.in_ok-body.ensures.within);
+      shorter = omega (arith, h.shorter, c.in_ok-upper.ensures.shorter, c.in_ok-next.ensures.shorter, fewer c.in_ok-colon.ensures, c.in_ok-body.ensures.shorter);
     }
 
 pub more_arms-returns-in_err-arm : goal.more_arms-returns-in_err-arm
@@ -339,31 +337,56 @@ repeat-returns t c =
       shorter = omega (arith, c.in_ok-body.ensures.shorter, fewer c.in_ok-until.ensures, c.in_ok-condition.ensures.shorter);
     })
 
-pub counted-returns-in_err-start : goal.counted-returns-in_err-start
-counted-returns-in_err-start t c =
-    exits _ _ c.from_residual.result c.in_err-start.field-0.0 c.from_residual.ensures.1
-    (via (want.ident ∷ (want.symbol symbols.Becomes ∷ (expr_parts c.args.levels ++ []))) (want.statement (suc c.args.levels) ∷ []) _ (word_token words.For c.args.span ∷ c.args.given.now) _ (λ s. (want.word words.To ∷ (expr_parts c.args.levels ++ (want.some_step c.args.levels ∷ (want.word words.Do ∷ (statements_parts c.args.levels ++ (want.word words.End ∷ s))))))) (λ s. entered (want.statement (suc c.args.levels)) (want.ident ∷ (want.symbol symbols.Becomes ∷ (expr_parts c.args.levels ++ (want.word words.To ∷ (expr_parts c.args.levels ++ (want.some_step c.args.levels ∷ (want.word words.Do ∷ (statements_parts c.args.levels ++ (want.word words.End ∷ []))))))))) s _ _ _ refl refl) c.in_err-start.ensures)
+pub counted-returns-in_err-variable : goal.counted-returns-in_err-variable
+counted-returns-in_err-variable t c =
+    exits _ _ c.from_residual.result c.in_err-variable.field-0.0 c.from_residual.ensures.1
+    (via (want.ident ∷ []) ((want.statement (suc c.args.levels)) ∷ []) _ (word_token words.For c.args.span ∷ c.args.given.now) _ (λ s. (want.symbol symbols.Becomes ∷ (expr_parts c.args.levels ++ (want.word words.To ∷ (expr_parts c.args.levels ++ (want.some_step c.args.levels ∷ (want.word words.Do ∷ (statements_parts c.args.levels ++ (want.word words.End ∷ s))))))))) (λ s. entered (want.statement (suc c.args.levels)) (want.ident ∷ (want.symbol symbols.Becomes ∷ (expr_parts c.args.levels ++ (want.word words.To ∷ (expr_parts c.args.levels ++ (want.some_step c.args.levels ∷ (want.word words.Do ∷ (statements_parts c.args.levels ++ (want.word words.End ∷ []))))))))) s _ _ _ refl refl) c.in_err-variable.ensures)
 
-pub counted-returns-in_err-bound : goal.counted-returns-in_err-bound
-counted-returns-in_err-bound t c =
-    exits _ _ c.from_residual-in_err-bound.result c.in_err-bound.field-0.0 c.from_residual-in_err-bound.ensures.1
-    (via (want.word words.To ∷ (expr_parts c.args.levels ++ (want.some_step c.args.levels ∷ (want.word words.Do ∷ [])))) (want.statement (suc c.args.levels) ∷ []) _ (word_token words.For c.args.span ∷ c.args.given.now) _ (λ s. (statements_parts c.args.levels ++ (want.word words.End ∷ s))) (λ s. entered (want.statement (suc c.args.levels)) (want.ident ∷ (want.symbol symbols.Becomes ∷ (expr_parts c.args.levels ++ (want.word words.To ∷ (expr_parts c.args.levels ++ (want.some_step c.args.levels ∷ (want.word words.Do ∷ (statements_parts c.args.levels ++ (want.word words.End ∷ []))))))))) s _ _ _ refl refl ∙ c.in_ok-start.ensures.moves (want.word words.To ∷ (expr_parts c.args.levels ++ (want.some_step c.args.levels ∷ (want.word words.Do ∷ (statements_parts c.args.levels ++ (want.word words.End ∷ s))))))) c.in_err-bound.ensures)
+pub counted-returns-in_err-becomes : goal.counted-returns-in_err-becomes
+counted-returns-in_err-becomes t c =
+    exits _ _ c.from_residual-in_err-becomes.result c.in_err-becomes.field-0.0 c.from_residual-in_err-becomes.ensures.1
+    (via (want.symbol symbols.Becomes ∷ []) ((want.statement (suc c.args.levels)) ∷ []) _ (word_token words.For c.args.span ∷ c.args.given.now) _ (λ s. (expr_parts c.args.levels ++ (want.word words.To ∷ (expr_parts c.args.levels ++ (want.some_step c.args.levels ∷ (want.word words.Do ∷ (statements_parts c.args.levels ++ (want.word words.End ∷ s)))))))) (λ s. entered (want.statement (suc c.args.levels)) (want.ident ∷ (want.symbol symbols.Becomes ∷ (expr_parts c.args.levels ++ (want.word words.To ∷ (expr_parts c.args.levels ++ (want.some_step c.args.levels ∷ (want.word words.Do ∷ (statements_parts c.args.levels ++ (want.word words.End ∷ []))))))))) s _ _ _ refl refl ∙ after_ident (want.symbol symbols.Becomes ∷ (expr_parts c.args.levels ++ (want.word words.To ∷ (expr_parts c.args.levels ++ (want.some_step c.args.levels ∷ (want.word words.Do ∷ (statements_parts c.args.levels ++ (want.word words.End ∷ s)))))))) c.in_ok-variable.ensures) c.in_err-becomes.ensures)
+
+pub counted-returns-in_err-from : goal.counted-returns-in_err-from
+counted-returns-in_err-from t c =
+    exits _ _ c.from_residual-in_err-from.result c.in_err-from.field-0.0 c.from_residual-in_err-from.ensures.1
+    (via (expr_parts c.args.levels ++ []) ((want.statement (suc c.args.levels)) ∷ []) _ (word_token words.For c.args.span ∷ c.args.given.now) _ (λ s. (want.word words.To ∷ (expr_parts c.args.levels ++ (want.some_step c.args.levels ∷ (want.word words.Do ∷ (statements_parts c.args.levels ++ (want.word words.End ∷ s))))))) (λ s. entered (want.statement (suc c.args.levels)) (want.ident ∷ (want.symbol symbols.Becomes ∷ (expr_parts c.args.levels ++ (want.word words.To ∷ (expr_parts c.args.levels ++ (want.some_step c.args.levels ∷ (want.word words.Do ∷ (statements_parts c.args.levels ++ (want.word words.End ∷ []))))))))) s _ _ _ refl refl ∙ after_ident (want.symbol symbols.Becomes ∷ (expr_parts c.args.levels ++ (want.word words.To ∷ (expr_parts c.args.levels ++ (want.some_step c.args.levels ∷ (want.word words.Do ∷ (statements_parts c.args.levels ++ (want.word words.End ∷ s)))))))) c.in_ok-variable.ensures ∙ after_symbol symbols.Becomes (expr_parts c.args.levels ++ (want.word words.To ∷ (expr_parts c.args.levels ++ (want.some_step c.args.levels ∷ (want.word words.Do ∷ (statements_parts c.args.levels ++ (want.word words.End ∷ s))))))) c.in_ok-becomes.ensures) c.in_err-from.ensures)
+
+pub counted-returns-in_err-to_word : goal.counted-returns-in_err-to_word
+counted-returns-in_err-to_word t c =
+    exits _ _ c.from_residual-in_err-to_word.result c.in_err-to_word.field-0.0 c.from_residual-in_err-to_word.ensures.1
+    (via (want.word words.To ∷ []) ((want.statement (suc c.args.levels)) ∷ []) _ (word_token words.For c.args.span ∷ c.args.given.now) _ (λ s. (expr_parts c.args.levels ++ (want.some_step c.args.levels ∷ (want.word words.Do ∷ (statements_parts c.args.levels ++ (want.word words.End ∷ s)))))) (λ s. entered (want.statement (suc c.args.levels)) (want.ident ∷ (want.symbol symbols.Becomes ∷ (expr_parts c.args.levels ++ (want.word words.To ∷ (expr_parts c.args.levels ++ (want.some_step c.args.levels ∷ (want.word words.Do ∷ (statements_parts c.args.levels ++ (want.word words.End ∷ []))))))))) s _ _ _ refl refl ∙ after_ident (want.symbol symbols.Becomes ∷ (expr_parts c.args.levels ++ (want.word words.To ∷ (expr_parts c.args.levels ++ (want.some_step c.args.levels ∷ (want.word words.Do ∷ (statements_parts c.args.levels ++ (want.word words.End ∷ s)))))))) c.in_ok-variable.ensures ∙ after_symbol symbols.Becomes (expr_parts c.args.levels ++ (want.word words.To ∷ (expr_parts c.args.levels ++ (want.some_step c.args.levels ∷ (want.word words.Do ∷ (statements_parts c.args.levels ++ (want.word words.End ∷ s))))))) c.in_ok-becomes.ensures ∙ c.in_ok-from.ensures.moves (want.word words.To ∷ (expr_parts c.args.levels ++ (want.some_step c.args.levels ∷ (want.word words.Do ∷ (statements_parts c.args.levels ++ (want.word words.End ∷ s))))))) c.in_err-to_word.ensures)
+
+pub counted-returns-in_err-limit : goal.counted-returns-in_err-limit
+counted-returns-in_err-limit t c =
+    exits _ _ c.from_residual-in_err-limit.result c.in_err-limit.field-0.0 c.from_residual-in_err-limit.ensures.1
+    (via (expr_parts c.args.levels ++ []) ((want.statement (suc c.args.levels)) ∷ []) _ (word_token words.For c.args.span ∷ c.args.given.now) _ (λ s. (want.some_step c.args.levels ∷ (want.word words.Do ∷ (statements_parts c.args.levels ++ (want.word words.End ∷ s))))) (λ s. entered (want.statement (suc c.args.levels)) (want.ident ∷ (want.symbol symbols.Becomes ∷ (expr_parts c.args.levels ++ (want.word words.To ∷ (expr_parts c.args.levels ++ (want.some_step c.args.levels ∷ (want.word words.Do ∷ (statements_parts c.args.levels ++ (want.word words.End ∷ []))))))))) s _ _ _ refl refl ∙ after_ident (want.symbol symbols.Becomes ∷ (expr_parts c.args.levels ++ (want.word words.To ∷ (expr_parts c.args.levels ++ (want.some_step c.args.levels ∷ (want.word words.Do ∷ (statements_parts c.args.levels ++ (want.word words.End ∷ s)))))))) c.in_ok-variable.ensures ∙ after_symbol symbols.Becomes (expr_parts c.args.levels ++ (want.word words.To ∷ (expr_parts c.args.levels ++ (want.some_step c.args.levels ∷ (want.word words.Do ∷ (statements_parts c.args.levels ++ (want.word words.End ∷ s))))))) c.in_ok-becomes.ensures ∙ c.in_ok-from.ensures.moves (want.word words.To ∷ (expr_parts c.args.levels ++ (want.some_step c.args.levels ∷ (want.word words.Do ∷ (statements_parts c.args.levels ++ (want.word words.End ∷ s)))))) ∙ after_word words.To (expr_parts c.args.levels ++ (want.some_step c.args.levels ∷ (want.word words.Do ∷ (statements_parts c.args.levels ++ (want.word words.End ∷ s))))) c.in_ok-to_word.ensures) c.in_err-limit.ensures)
+
+pub counted-returns-in_err-step : goal.counted-returns-in_err-step
+counted-returns-in_err-step t c =
+    exits _ _ c.from_residual-in_err-step.result c.in_err-step.field-0.0 c.from_residual-in_err-step.ensures.1
+    (via (want.some_step c.args.levels ∷ []) ((want.statement (suc c.args.levels)) ∷ []) _ (word_token words.For c.args.span ∷ c.args.given.now) _ (λ s. (want.word words.Do ∷ (statements_parts c.args.levels ++ (want.word words.End ∷ s)))) (λ s. entered (want.statement (suc c.args.levels)) (want.ident ∷ (want.symbol symbols.Becomes ∷ (expr_parts c.args.levels ++ (want.word words.To ∷ (expr_parts c.args.levels ++ (want.some_step c.args.levels ∷ (want.word words.Do ∷ (statements_parts c.args.levels ++ (want.word words.End ∷ []))))))))) s _ _ _ refl refl ∙ after_ident (want.symbol symbols.Becomes ∷ (expr_parts c.args.levels ++ (want.word words.To ∷ (expr_parts c.args.levels ++ (want.some_step c.args.levels ∷ (want.word words.Do ∷ (statements_parts c.args.levels ++ (want.word words.End ∷ s)))))))) c.in_ok-variable.ensures ∙ after_symbol symbols.Becomes (expr_parts c.args.levels ++ (want.word words.To ∷ (expr_parts c.args.levels ++ (want.some_step c.args.levels ∷ (want.word words.Do ∷ (statements_parts c.args.levels ++ (want.word words.End ∷ s))))))) c.in_ok-becomes.ensures ∙ c.in_ok-from.ensures.moves (want.word words.To ∷ (expr_parts c.args.levels ++ (want.some_step c.args.levels ∷ (want.word words.Do ∷ (statements_parts c.args.levels ++ (want.word words.End ∷ s)))))) ∙ after_word words.To (expr_parts c.args.levels ++ (want.some_step c.args.levels ∷ (want.word words.Do ∷ (statements_parts c.args.levels ++ (want.word words.End ∷ s))))) c.in_ok-to_word.ensures ∙ c.in_ok-limit.ensures.moves (want.some_step c.args.levels ∷ (want.word words.Do ∷ (statements_parts c.args.levels ++ (want.word words.End ∷ s))))) c.in_err-step.ensures)
+
+pub counted-returns-in_err-body_word : goal.counted-returns-in_err-body_word
+counted-returns-in_err-body_word t c =
+    exits _ _ c.from_residual-in_err-body_word.result c.in_err-body_word.field-0.0 c.from_residual-in_err-body_word.ensures.1
+    (via (want.word words.Do ∷ []) ((want.statement (suc c.args.levels)) ∷ []) _ (word_token words.For c.args.span ∷ c.args.given.now) _ (λ s. (statements_parts c.args.levels ++ (want.word words.End ∷ s))) (λ s. entered (want.statement (suc c.args.levels)) (want.ident ∷ (want.symbol symbols.Becomes ∷ (expr_parts c.args.levels ++ (want.word words.To ∷ (expr_parts c.args.levels ++ (want.some_step c.args.levels ∷ (want.word words.Do ∷ (statements_parts c.args.levels ++ (want.word words.End ∷ []))))))))) s _ _ _ refl refl ∙ after_ident (want.symbol symbols.Becomes ∷ (expr_parts c.args.levels ++ (want.word words.To ∷ (expr_parts c.args.levels ++ (want.some_step c.args.levels ∷ (want.word words.Do ∷ (statements_parts c.args.levels ++ (want.word words.End ∷ s)))))))) c.in_ok-variable.ensures ∙ after_symbol symbols.Becomes (expr_parts c.args.levels ++ (want.word words.To ∷ (expr_parts c.args.levels ++ (want.some_step c.args.levels ∷ (want.word words.Do ∷ (statements_parts c.args.levels ++ (want.word words.End ∷ s))))))) c.in_ok-becomes.ensures ∙ c.in_ok-from.ensures.moves (want.word words.To ∷ (expr_parts c.args.levels ++ (want.some_step c.args.levels ∷ (want.word words.Do ∷ (statements_parts c.args.levels ++ (want.word words.End ∷ s)))))) ∙ after_word words.To (expr_parts c.args.levels ++ (want.some_step c.args.levels ∷ (want.word words.Do ∷ (statements_parts c.args.levels ++ (want.word words.End ∷ s))))) c.in_ok-to_word.ensures ∙ c.in_ok-limit.ensures.moves (want.some_step c.args.levels ∷ (want.word words.Do ∷ (statements_parts c.args.levels ++ (want.word words.End ∷ s)))) ∙ c.in_ok-step.ensures.moves (want.word words.Do ∷ (statements_parts c.args.levels ++ (want.word words.End ∷ s)))) c.in_err-body_word.ensures)
 
 pub counted-returns-in_err-body : goal.counted-returns-in_err-body
 counted-returns-in_err-body t c =
     exits _ _ c.from_residual-in_err-body.result c.in_err-body.field-0.0 c.from_residual-in_err-body.ensures.1
-    (via (statements_parts c.args.levels ++ []) (want.statement (suc c.args.levels) ∷ []) _ (word_token words.For c.args.span ∷ c.args.given.now) _ (λ s. (want.word words.End ∷ s)) (λ s. entered (want.statement (suc c.args.levels)) (want.ident ∷ (want.symbol symbols.Becomes ∷ (expr_parts c.args.levels ++ (want.word words.To ∷ (expr_parts c.args.levels ++ (want.some_step c.args.levels ∷ (want.word words.Do ∷ (statements_parts c.args.levels ++ (want.word words.End ∷ []))))))))) s _ _ _ refl refl ∙ c.in_ok-start.ensures.moves (want.word words.To ∷ (expr_parts c.args.levels ++ (want.some_step c.args.levels ∷ (want.word words.Do ∷ (statements_parts c.args.levels ++ (want.word words.End ∷ s)))))) ∙ c.in_ok-bound.ensures.moves (statements_parts c.args.levels ++ (want.word words.End ∷ s))) c.in_err-body.ensures)
+    (via (statements_parts c.args.levels ++ []) ((want.statement (suc c.args.levels)) ∷ []) _ (word_token words.For c.args.span ∷ c.args.given.now) _ (λ s. (want.word words.End ∷ s)) (λ s. entered (want.statement (suc c.args.levels)) (want.ident ∷ (want.symbol symbols.Becomes ∷ (expr_parts c.args.levels ++ (want.word words.To ∷ (expr_parts c.args.levels ++ (want.some_step c.args.levels ∷ (want.word words.Do ∷ (statements_parts c.args.levels ++ (want.word words.End ∷ []))))))))) s _ _ _ refl refl ∙ after_ident (want.symbol symbols.Becomes ∷ (expr_parts c.args.levels ++ (want.word words.To ∷ (expr_parts c.args.levels ++ (want.some_step c.args.levels ∷ (want.word words.Do ∷ (statements_parts c.args.levels ++ (want.word words.End ∷ s)))))))) c.in_ok-variable.ensures ∙ after_symbol symbols.Becomes (expr_parts c.args.levels ++ (want.word words.To ∷ (expr_parts c.args.levels ++ (want.some_step c.args.levels ∷ (want.word words.Do ∷ (statements_parts c.args.levels ++ (want.word words.End ∷ s))))))) c.in_ok-becomes.ensures ∙ c.in_ok-from.ensures.moves (want.word words.To ∷ (expr_parts c.args.levels ++ (want.some_step c.args.levels ∷ (want.word words.Do ∷ (statements_parts c.args.levels ++ (want.word words.End ∷ s)))))) ∙ after_word words.To (expr_parts c.args.levels ++ (want.some_step c.args.levels ∷ (want.word words.Do ∷ (statements_parts c.args.levels ++ (want.word words.End ∷ s))))) c.in_ok-to_word.ensures ∙ c.in_ok-limit.ensures.moves (want.some_step c.args.levels ∷ (want.word words.Do ∷ (statements_parts c.args.levels ++ (want.word words.End ∷ s)))) ∙ c.in_ok-step.ensures.moves (want.word words.Do ∷ (statements_parts c.args.levels ++ (want.word words.End ∷ s))) ∙ after_word words.Do (statements_parts c.args.levels ++ (want.word words.End ∷ s)) c.in_ok-body_word.ensures) c.in_err-body.ensures)
 
 pub counted-returns-in_err-end : goal.counted-returns-in_err-end
 counted-returns-in_err-end t c =
     exits _ _ c.from_residual-in_err-end.result c.in_err-end.field-0.0 c.from_residual-in_err-end.ensures.1
-    (via (want.word words.End ∷ []) (want.statement (suc c.args.levels) ∷ []) _ (word_token words.For c.args.span ∷ c.args.given.now) _ (λ s. s) (λ s. entered (want.statement (suc c.args.levels)) (want.ident ∷ (want.symbol symbols.Becomes ∷ (expr_parts c.args.levels ++ (want.word words.To ∷ (expr_parts c.args.levels ++ (want.some_step c.args.levels ∷ (want.word words.Do ∷ (statements_parts c.args.levels ++ (want.word words.End ∷ []))))))))) s _ _ _ refl refl ∙ c.in_ok-start.ensures.moves (want.word words.To ∷ (expr_parts c.args.levels ++ (want.some_step c.args.levels ∷ (want.word words.Do ∷ (statements_parts c.args.levels ++ (want.word words.End ∷ s)))))) ∙ c.in_ok-bound.ensures.moves (statements_parts c.args.levels ++ (want.word words.End ∷ s)) ∙ c.in_ok-body.ensures.moves (want.word words.End ∷ s)) c.in_err-end.ensures)
+    (via (want.word words.End ∷ []) ((want.statement (suc c.args.levels)) ∷ []) _ (word_token words.For c.args.span ∷ c.args.given.now) _ (λ s. s) (λ s. entered (want.statement (suc c.args.levels)) (want.ident ∷ (want.symbol symbols.Becomes ∷ (expr_parts c.args.levels ++ (want.word words.To ∷ (expr_parts c.args.levels ++ (want.some_step c.args.levels ∷ (want.word words.Do ∷ (statements_parts c.args.levels ++ (want.word words.End ∷ []))))))))) s _ _ _ refl refl ∙ after_ident (want.symbol symbols.Becomes ∷ (expr_parts c.args.levels ++ (want.word words.To ∷ (expr_parts c.args.levels ++ (want.some_step c.args.levels ∷ (want.word words.Do ∷ (statements_parts c.args.levels ++ (want.word words.End ∷ s)))))))) c.in_ok-variable.ensures ∙ after_symbol symbols.Becomes (expr_parts c.args.levels ++ (want.word words.To ∷ (expr_parts c.args.levels ++ (want.some_step c.args.levels ∷ (want.word words.Do ∷ (statements_parts c.args.levels ++ (want.word words.End ∷ s))))))) c.in_ok-becomes.ensures ∙ c.in_ok-from.ensures.moves (want.word words.To ∷ (expr_parts c.args.levels ++ (want.some_step c.args.levels ∷ (want.word words.Do ∷ (statements_parts c.args.levels ++ (want.word words.End ∷ s)))))) ∙ after_word words.To (expr_parts c.args.levels ++ (want.some_step c.args.levels ∷ (want.word words.Do ∷ (statements_parts c.args.levels ++ (want.word words.End ∷ s))))) c.in_ok-to_word.ensures ∙ c.in_ok-limit.ensures.moves (want.some_step c.args.levels ∷ (want.word words.Do ∷ (statements_parts c.args.levels ++ (want.word words.End ∷ s)))) ∙ c.in_ok-step.ensures.moves (want.word words.Do ∷ (statements_parts c.args.levels ++ (want.word words.End ∷ s))) ∙ after_word words.Do (statements_parts c.args.levels ++ (want.word words.End ∷ s)) c.in_ok-body_word.ensures ∙ c.in_ok-body.ensures.moves (want.word words.End ∷ s)) c.in_err-end.ensures)
 
 pub counted-returns : goal.counted-returns
 counted-returns t c =
     rw (c.in_ok-boxed.ensures.ok, for_made _ _ _ _ _ _ _ _ _ _) (record {
-      spelled = onto refl (behind c.in_ok-start.ensures (behind c.in_ok-bound.ensures (behind c.in_ok-body.ensures (onto c.in_ok-end.ensures refl))));
-      moves = λ s. entered (want.statement (suc c.args.levels)) (want.ident ∷ (want.symbol symbols.Becomes ∷ (expr_parts c.args.levels ++ (want.word words.To ∷ (expr_parts c.args.levels ++ (want.some_step c.args.levels ∷ (want.word words.Do ∷ (statements_parts c.args.levels ++ (want.word words.End ∷ []))))))))) s _ _ _ refl refl ∙ c.in_ok-start.ensures.moves (want.word words.To ∷ (expr_parts c.args.levels ++ (want.some_step c.args.levels ∷ (want.word words.Do ∷ (statements_parts c.args.levels ++ (want.word words.End ∷ s)))))) ∙ c.in_ok-bound.ensures.moves (statements_parts c.args.levels ++ (want.word words.End ∷ s)) ∙ c.in_ok-body.ensures.moves (want.word words.End ∷ s) ∙ after_word words.End s c.in_ok-end.ensures;
-      within = omega (arith, c.in_ok-start.ensures.within, c.in_ok-bound.ensures.within, c.in_ok-body.ensures.within);
-      shorter = omega (arith, c.in_ok-start.ensures.shorter, c.in_ok-bound.ensures.shorter, c.in_ok-body.ensures.shorter, fewer c.in_ok-end.ensures);
+      spelled = onto refl (onto c.in_ok-variable.ensures (onto c.in_ok-becomes.ensures (behind c.in_ok-from.ensures (onto c.in_ok-to_word.ensures (behind c.in_ok-limit.ensures (behind c.in_ok-step.ensures (onto c.in_ok-body_word.ensures (behind c.in_ok-body.ensures (onto c.in_ok-end.ensures refl)))))))));
+      moves = λ s. entered (want.statement (suc c.args.levels)) (want.ident ∷ (want.symbol symbols.Becomes ∷ (expr_parts c.args.levels ++ (want.word words.To ∷ (expr_parts c.args.levels ++ (want.some_step c.args.levels ∷ (want.word words.Do ∷ (statements_parts c.args.levels ++ (want.word words.End ∷ []))))))))) s _ _ _ refl refl ∙ after_ident (want.symbol symbols.Becomes ∷ (expr_parts c.args.levels ++ (want.word words.To ∷ (expr_parts c.args.levels ++ (want.some_step c.args.levels ∷ (want.word words.Do ∷ (statements_parts c.args.levels ++ (want.word words.End ∷ s)))))))) c.in_ok-variable.ensures ∙ after_symbol symbols.Becomes (expr_parts c.args.levels ++ (want.word words.To ∷ (expr_parts c.args.levels ++ (want.some_step c.args.levels ∷ (want.word words.Do ∷ (statements_parts c.args.levels ++ (want.word words.End ∷ s))))))) c.in_ok-becomes.ensures ∙ c.in_ok-from.ensures.moves (want.word words.To ∷ (expr_parts c.args.levels ++ (want.some_step c.args.levels ∷ (want.word words.Do ∷ (statements_parts c.args.levels ++ (want.word words.End ∷ s)))))) ∙ after_word words.To (expr_parts c.args.levels ++ (want.some_step c.args.levels ∷ (want.word words.Do ∷ (statements_parts c.args.levels ++ (want.word words.End ∷ s))))) c.in_ok-to_word.ensures ∙ c.in_ok-limit.ensures.moves (want.some_step c.args.levels ∷ (want.word words.Do ∷ (statements_parts c.args.levels ++ (want.word words.End ∷ s)))) ∙ c.in_ok-step.ensures.moves (want.word words.Do ∷ (statements_parts c.args.levels ++ (want.word words.End ∷ s))) ∙ after_word words.Do (statements_parts c.args.levels ++ (want.word words.End ∷ s)) c.in_ok-body_word.ensures ∙ c.in_ok-body.ensures.moves (want.word words.End ∷ s) ∙ after_word words.End s c.in_ok-end.ensures;
+      within = omega (arith, c.in_ok-from.ensures.within, c.in_ok-limit.ensures.within, c.in_ok-step.ensures.within, c.in_ok-body.ensures.within);
+      shorter = omega (arith, fewer c.in_ok-variable.ensures, fewer c.in_ok-becomes.ensures, c.in_ok-from.ensures.shorter, fewer c.in_ok-to_word.ensures, c.in_ok-limit.ensures.shorter, c.in_ok-step.ensures.shorter, fewer c.in_ok-body_word.ensures, c.in_ok-body.ensures.shorter, fewer c.in_ok-end.ensures);
     })

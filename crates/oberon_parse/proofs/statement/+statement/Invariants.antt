@@ -30,9 +30,6 @@ decreases-conditional l = 16 * length l.given.now + 8
 abbrev pub decreases-choice : goal.decreases-choice
 decreases-choice l = 16 * length l.given.now + 8
 
-abbrev pub decreases-arms : goal.decreases-arms
-decreases-arms l = 16 * length l.given.now + 3
-
 abbrev pub decreases-arm : goal.decreases-arm
 decreases-arm l = 16 * length l.given.now + 2
 
