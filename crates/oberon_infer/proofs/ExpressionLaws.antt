@@ -1,5 +1,5 @@
 -- Expressions in memory, read as trees.
-use Rattle.std.specs.Prelude.{◌≡◌, ℕ, List, Option, Some, None, Result, OnOk, refl}
+use Rattle.std.specs.Prelude.{◌≡◌, ℕ, List, Some, None, Result, OnOk}
 use Rattle.ob_text.specs.declared.code.Code.TheVariants as codes_of
 use Rattle.ob_text.specs.declared.span.Span.{Span}
 use Rattle.std.proofs.Common.{ap, sym, ◌∙◌}
@@ -56,7 +56,6 @@ element_range x u is =
 -- ---- what is said of an expression, a relation, a factor and an element
 
 module _ (me : List ℕ) (s : Scopes) where
-
   pub expr_said : {X E : Type 0} (e : Expr) (b : Box Relation Global) (r : Relation) (x : Ex) (place : Span) (answer : Result X E) (f : List OwnSaid) {o c d : List OwnSaid} → (out-Expr e).relation ≡ Some b → r ≡ b.value → x ≡ simple_is me s (simple_tree (out-Expr e).left) → place ≡ first_of_simple (simple_tree (out-Expr e).left) → Adds o c (simple_says me s (simple_tree (out-Expr e).left)) → Adds c d (value_row x place) → OnOk answer (Adds d f (relation_says me s x (relation_tree r))) → OnOk answer (Adds o f (expr_says me s (expr_tree e)))
   expr_said e b r x place answer f is held p at u v w =
       let a = simple_tree (out-Expr e).left in

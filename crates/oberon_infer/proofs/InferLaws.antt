@@ -1,12 +1,11 @@
 -- The loops over parts of an expression in memory: one turn, and the end.
-use Rattle.std.specs.Prelude.{◌≡◌, ℕ, ◌+◌, ◌<◌, ◌≤◌, Bool, ◌&&◌, not, List, [], ◌∷◌, length, drop, Option, Some, None, refl}
+use Rattle.std.specs.Prelude.{◌≡◌, ℕ, ◌+◌, ◌<◌, ◌≤◌, Bool, ◌&&◌, not, List, length, drop, Option, Some, None}
 use Rattle.std.proofs.Common.{ap, sym, ◌∙◌, get_or}
 use Rattle.std.proofs.lemmas.List.{at_drop_all}
 use Rattle.std.specs.declared.alloc.Global.{Global}
 use Rattle.std.specs.declared.boxed.Box.{Box}
 use Rattle.ob_text.specs.declared.code.Code.TheVariants as codes_of
 use Rattle.ob_text.specs.declared.span.Span.{Span}
-use Rattle.oberon_tree.specs.declared.leaf.Ident.{Ident}
 use Rattle.oberon_tree.specs.declared.expression.Simple.{Simple, out-Simple}
 use Rattle.oberon_tree.specs.declared.expression.Addend.{Addend, out-Addend}
 use Rattle.oberon_tree.specs.declared.expression.Term.{Term, out-Term}
@@ -21,7 +20,7 @@ use Rattle.oberon_tree.specs.declared.expression.Exprs.{Exprs, out-Exprs}
 use Rattle.oberon_tree.specs.declared.expression.NextExpr.{NextExpr, out-NextExpr}
 use Rattle.oberon_tree.specs.FirstSpans.{first_of_expr, first_of_term, first_of_factor}
 use Rattle.oberon_tree.specs.Memory.{expr_tree, simple_tree, addends_list, term_tree, multipliers_list, factor_tree, set_tree, element_tree, more_elements_list, selector_tree, selectors_list, exprs_tree, more_exprs_list, arguments_option}
-use Rattle.oberon_tree.specs.Trees.{simple_of, no_addends, term_of, no_multipliers, set_of, some_elements, no_more_elements, element_of, upper_of, exprs_of, no_more_exprs, more_exprs, call_selector}
+use Rattle.oberon_tree.specs.Trees.{simple_of, term_of, exprs_of, more_exprs, call_selector}
 use Rattle.oberon_tree.proofs.ExpressionMemory.{simple_out, term_out, exprs_out}
 use Rattle.oberon_types.specs.Types.{TyTree}
 use Rattle.oberon_rules.specs.Scopes.{Scopes, Said, row}
@@ -41,7 +40,6 @@ use Rattle.oberon_infer.proofs.PartLaws.{whole_all, wants_parts, call_said}
 use Rattle.oberon_infer.proofs.TurnLaws.{simple_done, simple_said, addend_is, addend_said, term_done, term_said, multiplier_is, multiplier_said, selector_is, selector_said, index_said, indices_said, argument_said, arguments_said}
 
 module _ (me : List ℕ) (s : Scopes) where
-
   -- ---- addends
 
   pub addend_turn : (xs : List Addend) (n : ℕ) (a : Addend) (w x y z : Ex) → n < length xs → a ≡ get_or xs n a → y ≡ term_is me s (term_tree (out-Addend a).term) → z ≡ outcome_is (add_fits (out-Addend a).operator (class_of x) (class_of y)) → w ≡ addends_are me s x (addends_list (drop n xs)) → w ≡ addends_are me s z (addends_list (drop (n + 1) xs))

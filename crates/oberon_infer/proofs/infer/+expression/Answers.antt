@@ -7,7 +7,7 @@ use Rattle.oberon_tree.specs.declared.expression.Exprs.{Exprs}
 use Rattle.oberon_tree.specs.declared.expression.Factor.{Factor}
 use Rattle.oberon_tree.specs.declared.expression.Selector.{Selector}
 use Rattle.oberon_tree.specs.FirstSpans.{first_of_factor}
-use Rattle.oberon_tree.specs.Memory.{expr_tree, factor_tree, designator_tree, element_tree, selector_tree, exprs_tree, arguments_option}
+use Rattle.oberon_tree.specs.Memory.{factor_tree, designator_tree, element_tree, selector_tree, exprs_tree, arguments_option}
 use Rattle.oberon_tree.specs.Trees.{negation_factor, index_selector}
 use Rattle.oberon_tree.proofs.ExpressionMemory.{designator_held, call_held}
 use Rattle.oberon_rules.specs.Expressions.{designator_is, factor_is, selected, indexed_type, or_unknown, element_type, exprs_are, arguments_are}
@@ -16,7 +16,7 @@ use Rattle.oberon_infer.specs.Given.{plain_given, none_given, given_behind}
 use Rattle.oberon_infer.specs.Memory.{plain_scopes, plain_ex, plain_type, plain_type_option, plain_wanted_option, plain_expected, plain_expected_option}
 use Rattle.oberon_infer.specs.Parts.{indexed_part}
 use Rattle.oberon_infer.specs.Sets.{is_whole_element}
-use Rattle.oberon_infer.proofs.AddsLaws.{adds_then, adds_as, adds_only, is_as}
+use Rattle.oberon_infer.proofs.AddsLaws.{adds_as, adds_only, is_as}
 use Rattle.oberon_infer.proofs.ExpressionLaws.{expr_alone, expr_said, relation_said, negation_said}
 use Rattle.oberon_infer.proofs.InferLaws.{addend_turn, addend_turn_said, simple_end, simple_end_said, multiplier_turn, multiplier_turn_said, term_end, term_end_said, element_turn, element_turn_said, set_end, set_end_said, single_said, range_said, selector_turn, selector_turn_said, index_turn, index_turn_said, indices_end, indices_end_said, call_said_with, argument_turn, argument_turn_said, arguments_end, arguments_end_said}
 use Rattle.oberon_infer.proofs.PartLaws.{index_parts, call_parts, none_is_bad}
@@ -110,7 +110,7 @@ factor-returns-in_ok-x-in-Not-clause-says t c =
 pub elements-loop-next-preserved : goal.elements-loop-next-preserved
 elements-loop-next-preserved t c =
     let both : c.if-whole.whole ≡ (c.loop-next.whole && c.in_ok-fits-in-Some.fits) = elim c.if-whole.branch [
-      elements-then-whole w ↦ w.whole-is ∙ ap (λ b. b && c.in_ok-fits-in-Some.fits) (sym w.if-whole.true)
+      | elements-then-whole w ↦ w.whole-is ∙ ap (λ b. b && c.in_ok-fits-in-Some.fits) (sym w.if-whole.true)
       | elements-else-whole w ↦ w.whole-is ∙ w.if-whole.false ∙ ap (λ b. b && c.in_ok-fits-in-Some.fits) (sym w.if-whole.false)
     ] in
     record {
