@@ -13,7 +13,7 @@ use Rattle.session_core.specs.declared.session.Core.{Core}
 use Rattle.session_core.proofs.StandingLaws.{stood_lawful}
 use Rattle.bsp_cli.specs.Progress.{Progress, Stopped, fed}
 use Rattle.bsp_cli.specs.Outside.{Told}
-use Rattle.bsp_cli.specs.Writing.{Steps, Stops}
+use Rattle.bsp_cli.specs.Writing.{GoesThrough, Stops}
 use Rattle.bsp_cli.proofs.EventLaws.{takes_of-append, end_of-append, tells_append}
 
 -- one frame and then such bytes
@@ -28,7 +28,7 @@ module _ (c d : Core) (old new : Waiting) (body : List ℕ) (left0 left : Option
       (FramesTo-append so.read (takes_of so.order) (body ∷ []) old.bytes new.bytes so.frames (one_frame old.bytes body new.bytes begins))
 
   -- a frame that waited was acted on
-  pub progress_acts : Steps c d (body ∷ []) before behind → Progress d new left0 left start behind
+  pub progress_acts : GoesThrough c d (body ∷ []) before behind → Progress d new left0 left start behind
   progress_acts steps =
       record {
         order = steps.events ++ so.order;

@@ -25,7 +25,7 @@ use Rattle.bsp_cli.specs.Session.{Change, InputChange, TreeChange, EndsFor, HasN
 use Rattle.bsp_cli.specs.Places.{EndsInLast, WhereTold}
 use Rattle.bsp_cli.specs.Served.{Serves}
 use Rattle.bsp_cli.specs.Outside.{Told, told}
-use Rattle.bsp_cli.specs.Writing.{Acts, HaltsAt}
+use Rattle.bsp_cli.specs.Writing.{ActsThrough, HaltsAt}
 use Rattle.bsp_cli.specs.Outcomes.{how_of, status_by}
 use Rattle.bsp_cli.specs.declared.outcome.Ending.{Ending}
 use Rattle.bsp_cli.specs.declared.outcome.Ending.TheVariants.{Border, Damaged, Failed}
@@ -244,7 +244,7 @@ module _ (left0 left : Option (List ℕ)) (course0 course : Option Course) (star
       let before = settled c so.order ready.free (known c so.order ready.quiet ready.alive so.stands) in
       record { requests = none_open messages (how_of ending) so.order before.requests; nulls = knows.nulls_are }
 
-  ends_well : Acts c d (ends (how_of ending)) middle.given given → IsQuiet d → IsAlive d
+  ends_well : ActsThrough c d (ends (how_of ending)) middle.given given → IsQuiet d → IsAlive d
       → Session come (files start now) (written start now out_old out_new) (status_by (InputEnded ending)) (fed stream) (damage_of ending)
   ends_well acts quiet alive =
       let order = onto acts.messages (ends (how_of ending) ∷ so.order) in

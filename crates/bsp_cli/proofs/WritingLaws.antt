@@ -9,7 +9,8 @@ use Rattle.bsp_edge.proofs.StreamLaws.{gives_append, gives_nothing}
 use Rattle.rpc_peer.specs.Said.{Said}
 use Rattle.session_law.specs.IsFramed.{IsFramed, text_of}
 use Rattle.session_law.specs.Lawful.{Lawful}
-use Rattle.session_law.specs.Order.{Entries, Event, take as takes_body, hand, write, takes_of, writes_of, hands_of, failures_of, end_of}
+use Rattle.session_law.specs.Order.{Event, take as takes_body, hand, write, takes_of, writes_of, hands_of, failures_of, end_of}
+use Rattle.ob_text.specs.Held.{Entries}
 use Rattle.session_core.specs.Standing.{StandsFor, onto}
 use Rattle.session_core.specs.declared.session.Core.{Core}
 use Rattle.session_core.proofs.StandingLaws.{stood_lawful, onto-push, takes_of-onto, end_of-onto}
@@ -17,7 +18,7 @@ use Rattle.bsp_cli.specs.declared.stop.Stop.{Stop}
 use Rattle.bsp_cli.specs.declared.stop.Stop.TheVariants.{Sink, NoMemory}
 use Rattle.bsp_cli.specs.Outside.{Told, told}
 use Rattle.bsp_cli.specs.Session.{RoseBy}
-use Rattle.bsp_cli.specs.Writing.{Acts, Flushes, GivesFront, GivesSoFar, Halts, HaltsAt, Sends, Steps, Stops}
+use Rattle.bsp_cli.specs.Writing.{ActsThrough, Flushes, GivesFront, GivesSoFar, Halts, HaltsAt, Sends, GoesThrough, Stops}
 use Rattle.bsp_cli.proofs.EventLaws.{onto-append, takes_of-append, end_of-append, tells_append, tells_nothing, tells_onto, unasked}
 
 pub starts : (given : Option (List ℕ)) (bytes : List ℕ) → GivesSoFar given given bytes bytes
@@ -160,7 +161,7 @@ module _ (b c d : Core) (f g h : Option (List ℕ)) (m : Said) (so : Flushes b c
 -- ---- events
 
 module _ (c d e : Core) (f g : Option (List ℕ)) (event : Event) (next : (order : List Event) → StandsFor c order → StandsFor d (event ∷ order)) where
-  pub acts_by : Flushes d e f g → Acts c e event f g
+  pub acts_by : Flushes d e f g → ActsThrough c e event f g
   acts_by so = record { messages = so.messages; stands = λ order stands. so.stands (event ∷ order) (next order stands); put = so.put }
 
   pub halts_at : Halts d f g → HaltsAt c event f g
@@ -182,7 +183,7 @@ halts_lost c d given event next =
 
 module _ (c : Core) (event : Event) (bodies : List (List ℕ)) (a b : Told) (no_write : writes_of (event ∷ []) ≡ []) (takes : takes_of (event ∷ []) ≡ bodies) (unended : end_of (event ∷ []) ≡ None)
     (hands : Hands a.handed b.handed (hands_of (event ∷ []))) (failures : RoseBy (failures_of (event ∷ [])) a.faults b.faults) where
-  steps_by : (d : Core) → Acts c d event a.given b.given → Steps c d bodies a b
+  steps_by : (d : Core) → ActsThrough c d event a.given b.given → GoesThrough c d bodies a b
   steps_by d acts =
       record {
         events = onto acts.messages (event ∷ []);
@@ -206,7 +207,7 @@ module _ (c : Core) (event : Event) (bodies : List (List ℕ)) (a b : Told) (no_
 
 -- a body was taken, and the tree wasn't asked
 module _ (c : Core) (body : List ℕ) (handed : Option (List Entries)) (faults : ℕ) (given next : Option (List ℕ)) where
-  pub steps_take : (d : Core) → Acts c d (takes_body body) given next → Steps c d (body ∷ []) (told given handed faults) (told next handed faults)
+  pub steps_take : (d : Core) → ActsThrough c d (takes_body body) given next → GoesThrough c d (body ∷ []) (told given handed faults) (told next handed faults)
   steps_take d acts = steps_by c (takes_body body) (body ∷ []) (told given handed faults) (told next handed faults) refl refl refl (hands_nothing handed) (unasked faults) d acts
 
   pub stops_take : HaltsAt c (takes_body body) given next → Stops c (body ∷ []) (told given handed faults) (told next handed faults)
@@ -214,14 +215,14 @@ module _ (c : Core) (body : List ℕ) (handed : Option (List Entries)) (faults :
 
 -- the tree was asked
 module _ (c : Core) (got : Option Entries) (a b : Told) (hands : Hands a.handed b.handed (hands_of (hand got ∷ []))) (failures : RoseBy (failures_of (hand got ∷ [])) a.faults b.faults) where
-  pub steps_hand : (d : Core) → Acts c d (hand got) a.given b.given → Steps c d [] a b
+  pub steps_hand : (d : Core) → ActsThrough c d (hand got) a.given b.given → GoesThrough c d [] a b
   steps_hand d acts = steps_by c (hand got) [] a b refl refl refl hands failures d acts
 
   pub stops_hand : HaltsAt c (hand got) a.given b.given → Stops c [] a b
   stops_hand halts = stops_by c (hand got) [] a b refl refl refl hands failures halts
 
 -- nothing happened
-pub steps_none : (c d : Core) (now : Told) → ((order : List Event) → StandsFor c order → StandsFor d order) → Steps c d [] now now
+pub steps_none : (c d : Core) (now : Told) → ((order : List Event) → StandsFor c order → StandsFor d order) → GoesThrough c d [] now now
 steps_none c d now keeps = record { events = []; stands = keeps; takes = refl; unended = refl; tells = tells_nothing now }
 
 pub stops_here : (c : Core) (now : Told) → Stops c [] now now
@@ -230,7 +231,7 @@ stops_here c now =
 
 -- what the core keeps of an order it kept before
 module _ (b c : Core) (bodies : List (List ℕ)) (old new : Told) (keeps : (order : List Event) → StandsFor b order → StandsFor c order) where
-  pub steps_kept : (d : Core) → Steps c d bodies old new → Steps b d bodies old new
+  pub steps_kept : (d : Core) → GoesThrough c d bodies old new → GoesThrough b d bodies old new
   steps_kept d steps =
       record { events = steps.events; stands = λ order stands. steps.stands order (keeps order stands); takes = steps.takes; unended = steps.unended; tells = steps.tells }
 
@@ -239,11 +240,11 @@ module _ (b c : Core) (bodies : List (List ℕ)) (old new : Told) (keeps : (orde
       record { events = stops.events; lawful = λ order stands. stops.lawful order (keeps order stands); takes = stops.takes; unended = stops.unended; tail = stops.tail; tells = stops.tells; cut = stops.cut }
 
 -- steps, and others that take no body
-module _ (b c : Core) (bodies : List (List ℕ)) (x y z : Told) (so : Steps b c bodies x y) where
+module _ (b c : Core) (bodies : List (List ℕ)) (x y z : Told) (so : GoesThrough b c bodies x y) where
   joined_takes : (later : List Event) → takes_of later ≡ [] → takes_of (later ++ so.events) ≡ bodies
   joined_takes later none = takes_of-append later so.events ∙ (ap (λ more. takes_of so.events ++ more) none ∙ (append-nil (takes_of so.events) ∙ so.takes))
 
-  pub steps_then : (d : Core) → Steps c d [] y z → Steps b d bodies x z
+  pub steps_then : (d : Core) → GoesThrough c d [] y z → GoesThrough b d bodies x z
   steps_then d next =
       record {
         events = next.events ++ so.events;

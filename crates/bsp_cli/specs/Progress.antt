@@ -16,7 +16,7 @@ use Rattle.session_core.specs.declared.session.Core.{Core}
 use Rattle.bsp_cli.specs.Outcomes.{how_of}
 use Rattle.bsp_cli.specs.Session.{IsCut}
 use Rattle.bsp_cli.specs.Outside.{Told, Tells}
-use Rattle.bsp_cli.specs.Writing.{Acts, HaltsAt}
+use Rattle.bsp_cli.specs.Writing.{ActsThrough, HaltsAt}
 use Rattle.bsp_cli.specs.declared.outcome.Ending.{Ending}
 use Rattle.bsp_cli.specs.declared.outcome.Ending.TheVariants.{Border, Damaged, Failed}
 use Rattle.bsp_cli.specs.declared.outcome.Outcome.{Outcome}
@@ -116,5 +116,5 @@ Passes old new = (front rest : List ℕ) → old.bytes ≡ front ++ rest → Has
 
 -- the core acted on the end of the input and owes nothing more, or the session had to stop
 pub data Finishes (c d : Core) (ending : Ending) (old new : Option (List ℕ)) : Outcome → Type 0 where
-  ended : Acts c d (ends (how_of ending)) old new → IsQuiet d → IsAlive d → Finishes c d ending old new (outcomes.InputEnded ending)
+  ended : ActsThrough c d (ends (how_of ending)) old new → IsQuiet d → IsAlive d → Finishes c d ending old new (outcomes.InputEnded ending)
   halted : (stop : Stop) → HaltsAt c (ends (how_of ending)) old new → Finishes c d ending old new (outcomes.Stopped stop)

@@ -41,7 +41,7 @@ pub record Halts (c : Core) (old new : Option (List ℕ)) : Type 0 where
   pub cut : tail ≢ [] → IsCut tail
 
 -- the core acted on an event, and wrote messages
-pub record Acts (c d : Core) (event : Event) (old new : Option (List ℕ)) : Type 0 where
+pub record ActsThrough (c d : Core) (event : Event) (old new : Option (List ℕ)) : Type 0 where
   pub messages : List Said
   pub stands : (order : List Event) → StandsFor c order → StandsFor d (onto messages (event ∷ order))
   pub put : Gives old new (flat_map text_of messages)
@@ -55,7 +55,7 @@ pub record HaltsAt (c : Core) (event : Event) (old new : Option (List ℕ)) : Ty
   pub cut : tail ≢ [] → IsCut tail
 
 -- the core went from one state to the next by these events, the newest first, and took these bodies
-pub record Steps (c d : Core) (bodies : List (List ℕ)) (old new : Told) : Type 0 where
+pub record GoesThrough (c d : Core) (bodies : List (List ℕ)) (old new : Told) : Type 0 where
   pub events : List Event
   pub stands : (order : List Event) → StandsFor c order → StandsFor d (events ++ order)
   pub takes : takes_of events ≡ bodies

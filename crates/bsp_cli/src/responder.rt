@@ -1,21 +1,22 @@
 ghost use Rattle.std.specs.Prelude.{◌≡◌, ◌∷◌, ◌≤◌, ℕ, List, [], None, vec_len, IfOk, OnOk, OnErr, IsErrOf};
 ghost use Rattle.bsp_edge.specs.Faults.{Rose};
 ghost use Rattle.rpc_frame.specs.Limits.{content_limit};
-ghost use Rattle.rpc_peer.specs.Said.{body_of, said};
+ghost use Rattle.rpc_peer.specs.Said.{body_of};
+ghost use Rattle.session_build.specs.Outgoing.{outgoing_said};
 ghost use Rattle.session_law.specs.IsFramed.{IsFramed, text_of};
 ghost use Rattle.session_law.specs.Order.{Event, take, ends, hand};
 ghost use Rattle.session_core.specs.Standing.{StandsFor, Awaits, IsAlive, IsFree, IsQuiet, NeedsNothing, NeedsWhatItAwaits, Suits, status_of};
 ghost use Rattle.session_core.specs.State.{handed_of, state_of};
 ghost use Rattle.bsp_cli.specs.Outside.{told};
 ghost use Rattle.bsp_cli.specs.Progress.{IsReady};
-ghost use Rattle.bsp_cli.specs.Writing.{Acts, Flushes, Halts, HaltsAt, Sends, Steps, Stops};
+ghost use Rattle.bsp_cli.specs.Writing.{ActsThrough, Flushes, Halts, HaltsAt, Sends, GoesThrough, Stops};
 
 use crate::stop::Stop;
 use crate::writing::{SinkFailed, write_all};
 use bsp_edge::{Sink, Tree, TreeFault};
 use ob_text::{Items, NoMemory, Path, Snapshot};
 use rpc_frame::frame_into;
-use rpc_peer::{Message, write_message};
+use session_build::Outgoing;
 use session_core::{Core, Need};
 use session_law::InputEnd;
 use std::alloc::Global;
@@ -52,7 +53,7 @@ impl Responder {
     ) -> Result<Option<u8>, Stop>
         requires ready { IsReady self.old.core }
         requires stood { (order : List Event) × StandsFor self.old.core order }
-        ensures steps { OnOk result (Steps self.old.core self.new.core (body.now ∷ [])
+        ensures steps { OnOk result (GoesThrough self.old.core self.new.core (body.now ∷ [])
             (told (K.given output.old) (T.handed tree.old) (T.faults tree.old))
             (told (K.given output.new) (T.handed tree.new) (T.faults tree.new))) }
         ensures quiet { OnOk result (IsQuiet self.new.core) }
@@ -78,7 +79,7 @@ impl Responder {
     fn act_on_body<K: Sink>(&mut self, body: &[u8], output: &mut K) -> Result<(), Stop>
         requires ready { IsReady self.old.core }
         requires stood { (order : List Event) × StandsFor self.old.core order }
-        ensures acts { OnOk result (Acts self.old.core self.new.core (take body.now)
+        ensures acts { OnOk result (ActsThrough self.old.core self.new.core (take body.now)
             (K.given output.old) (K.given output.new)) }
         ensures quiet { OnOk result (IsQuiet self.new.core) }
         ensures alive { OnOk result (IsAlive self.new.core) }
@@ -100,7 +101,7 @@ impl Responder {
         requires alive { IsAlive self.old.core }
         requires needs { NeedsWhatItAwaits self.old.core }
         requires stood { (order : List Event) × StandsFor self.old.core order }
-        ensures steps { OnOk result (Steps self.old.core self.new.core []
+        ensures steps { OnOk result (GoesThrough self.old.core self.new.core []
             (told (K.given output.old) (T.handed tree.old) (T.faults tree.old))
             (told (K.given output.new) (T.handed tree.new) (T.faults tree.new))) }
         ensures quiet { OnOk result (IsQuiet self.new.core) }
@@ -130,7 +131,7 @@ impl Responder {
         requires asked { NeedsNothing self.old.core }
         requires awaited { Awaits self.old.core paths }
         requires stood { (order : List Event) × StandsFor self.old.core order }
-        ensures steps { OnOk result (Steps self.old.core self.new.core []
+        ensures steps { OnOk result (GoesThrough self.old.core self.new.core []
             (told (K.given output.old) (T.handed tree.old) (T.faults tree.old))
             (told (K.given output.new) (T.handed tree.new) (T.faults tree.new))) }
         ensures quiet { OnOk result (IsQuiet self.new.core) }
@@ -156,7 +157,7 @@ impl Responder {
         requires asked { NeedsNothing self.old.core }
         requires wanted { Suits self.old.core got }
         requires stood { (order : List Event) × StandsFor self.old.core order }
-        ensures acts { OnOk result (Acts self.old.core self.new.core (hand (handed_of got))
+        ensures acts { OnOk result (ActsThrough self.old.core self.new.core (hand (handed_of got))
             (K.given output.old) (K.given output.new)) }
         ensures quiet { OnOk result (IsQuiet self.new.core) }
         ensures free { OnOk result (IsFree self.new.core) }
@@ -176,7 +177,7 @@ impl Responder {
     pub fn act_on_end<K: Sink>(&mut self, how: InputEnd, output: &mut K) -> Result<(), Stop>
         requires ready { IsReady self.old.core }
         requires stood { (order : List Event) × StandsFor self.old.core order }
-        ensures acts { OnOk result (Acts self.old.core self.new.core (ends how)
+        ensures acts { OnOk result (ActsThrough self.old.core self.new.core (ends how)
             (K.given output.old) (K.given output.new)) }
         ensures quiet { OnOk result (IsQuiet self.new.core) }
         ensures alive { OnOk result (IsAlive self.new.core) }
@@ -213,12 +214,12 @@ impl Responder {
 }
 
 // The body of a message, which is used up.
-fn body(alloc: Global, message: Message) -> Result<Vec<u8>, NoMemory>
-    requires { IsFramed (said message) }
-    ensures text { IfOk result (λ b. b.items ≡ body_of (said message)) }
+fn body(alloc: Global, message: Outgoing) -> Result<Vec<u8>, NoMemory>
+    requires { IsFramed (outgoing_said message) }
+    ensures text { IfOk result (λ b. b.items ≡ body_of (outgoing_said message)) }
     ensures fits { IfOk result (λ b. vec_len b ≤ content_limit) }
 {
-    write_message(alloc, &message)
+    message.into_body(alloc)
 }
 
 /// Writes a message as a frame. `frame` is room for it, which each message uses anew.
@@ -227,10 +228,10 @@ fn send<K: Sink>(
     alloc: Global,
     output: &mut K,
     frame: &mut Vec<u8>,
-    message: Message,
+    message: Outgoing,
 ) -> Result<(), Stop>
-    requires { IsFramed (said message) }
-    ensures sends { Sends (K.given output.old) (K.given output.new) (text_of (said message)) result }
+    requires { IsFramed (outgoing_said message) }
+    ensures sends { Sends (K.given output.old) (K.given output.new) (text_of (outgoing_said message)) result }
     ensures sink { IsErrOf result Stop.Sink → Rose (K.faults output.old) (K.faults output.new) }
     ensures same { (IsErrOf result Stop.Sink → ⊥) → K.faults output.new ≡ K.faults output.old }
 {

@@ -1,4 +1,6 @@
-ghost use Rattle.std.specs.Prelude.{◌≡◌, ◌≢◌, ◌<◌, None, Ok, Err, length, vec_len, IfOk, IsErrOf};
+ghost use Rattle.std.specs.Prelude.{◌≡◌, ◌≢◌, ◌<◌, None, Some, Ok, Err, length, vec_len, IfErr, IfOk, IsErrOf};
+ghost use Rattle.std.specs.Fs.{file_type, IsFile};
+ghost use Rattle.std.specs.IoError.{error_kind};
 ghost use Rattle.std.specs.List.{All};
 ghost use Rattle.std.specs.Path.{path_buf_bytes, path_join};
 ghost use Rattle.std.specs.Str.{IsUtf8};
@@ -9,8 +11,8 @@ use crate::document::read_document;
 use crate::handing::{Tree, TreeFault};
 use ob_text::{Held, Items, Path, Snapshot, Text};
 use std::alloc::{AllocError, Global};
-use std::fs::{self, File};
-use std::io::ErrorKind;
+use std::fs::{self, File, Metadata};
+use std::io::{self, ErrorKind};
 use std::path::{self, PathBuf};
 use std::rt::Files;
 use std::str;
@@ -64,10 +66,12 @@ impl<R: Files> FolderTree<R> {
         ensures { IfOk result IsReadable }
     {
         let name = name_of(self.alloc, self.folder.as_slice(), path.as_slice())?;
-        match fs::metadata(&self.runtime, name.as_path()) {
-            Ok(metadata) if metadata.is_file() => self.read_regular(name, buffer),
-            Ok(_) => Err(TreeFault::Failed),
-            Err(error) => absent_where_missing(error.kind()),
+        match found(fs::metadata(&self.runtime, name.as_path()))? {
+            Some(metadata) => {
+                regular(&metadata)?;
+                self.read_regular(name, buffer)
+            }
+            None => Ok(Held::Absent),
         }
     }
 
@@ -75,9 +79,9 @@ impl<R: Files> FolderTree<R> {
         requires { 0 < length buffer.old }
         ensures { IfOk result IsReadable }
     {
-        match File::open(&self.runtime, name) {
-            Ok(mut file) => read_document(self.alloc, &mut file, buffer),
-            Err(error) => absent_where_missing(error.kind()),
+        match found(File::open(&self.runtime, name))? {
+            Some(mut file) => read_document(self.alloc, &mut file, buffer),
+            None => Ok(Held::Absent),
         }
     }
 }
@@ -100,17 +104,34 @@ impl<R: Files> Tree for FolderTree<R> {
     }
 }
 
-/// No entry, or a parent that is no folder, is Absent.
-fn absent_where_missing(kind: ErrorKind) -> Result<Held, TreeFault>
-    ensures missing { kind ≡ ErrorKind.NotFound → result ≡ Ok Held.Absent }
-    ensures no_folder { kind ≡ ErrorKind.NotADirectory → result ≡ Ok Held.Absent }
-    ensures failed { kind ≢ ErrorKind.NotFound → kind ≢ ErrorKind.NotADirectory
-        → result ≡ Err TreeFault.Failed }
-    ensures readable { IfOk result IsReadable }
+/// What a call on a path found. It is nothing where there is no entry, or a parent is no folder.
+fn found<T>(answer: io::Result<T>) -> Result<Option<T>, TreeFault>
+    ensures found { IfOk answer (λ it. result ≡ Ok (Some it)) }
+    ensures missing { IfErr answer (λ error. error_kind error ≡ ErrorKind.NotFound
+        → result ≡ Ok None) }
+    ensures no_folder { IfErr answer (λ error. error_kind error ≡ ErrorKind.NotADirectory
+        → result ≡ Ok None) }
+    ensures failed { IfErr answer (λ error. error_kind error ≢ ErrorKind.NotFound
+        → error_kind error ≢ ErrorKind.NotADirectory → result ≡ Err TreeFault.Failed) }
 {
-    match kind {
-        ErrorKind::NotFound | ErrorKind::NotADirectory => Ok(Held::Absent),
-        _ => Err(TreeFault::Failed),
+    match answer {
+        Ok(it) => Ok(Some(it)),
+        Err(error) => match error.kind() {
+            ErrorKind::NotFound | ErrorKind::NotADirectory => Ok(None),
+            _ => Err(TreeFault::Failed),
+        },
+    }
+}
+
+/// Looks whether a regular file stands at a path.
+fn regular(metadata: &Metadata) -> Result<(), TreeFault>
+    ensures file { IsFile (file_type metadata.now) → result ≡ Ok tt }
+    ensures other { ¬ (IsFile (file_type metadata.now)) → result ≡ Err TreeFault.Failed }
+{
+    if metadata.is_file() {
+        Ok(())
+    } else {
+        Err(TreeFault::Failed)
     }
 }
 

@@ -3,3 +3,5 @@ pub mod ExactLaws
 pub mod ParamsLaws
 pub mod ShortLaws
 pub mod AnswerLaws
+pub mod PrintingLaws
+pub mod PublicationLaws

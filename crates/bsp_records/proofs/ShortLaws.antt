@@ -216,7 +216,7 @@ pub flag_short : (b : Bool) → length (compact_text (boolean b)) ≤ 5
 flag_short true = lit≤ tt
 flag_short false = lit≤ tt
 
-publication_short : (p : PublishDiagnosticsParams) → IsShortPublication p → length (compact_text (publish_diagnostics_params_data p)) ≤ publication_limit
+pub publication_short : (p : PublishDiagnosticsParams) → IsShortPublication p → length (compact_text (publish_diagnostics_params_data p)) ≤ publication_limit
 publication_short p short =
     through (object_short ((codes "textDocument", Some (identifier_data p.text_document.uri)) ∷ (codes "buildTarget", Some (identifier_data p.build_target.uri))
     ∷ (codes "originId", option_map string p.origin_id) ∷ (codes "diagnostics", Some (array_with (map diagnostic_data p.diagnostics))) ∷ (codes "reset", Some (boolean p.reset)) ∷ []))

@@ -12,3 +12,4 @@ pub mod Results
 pub mod ShortAnswers
 pub mod Tasks
 pub mod Notices
+pub mod Printing

@@ -12,6 +12,7 @@ mod kinds;
 mod notices;
 mod numbers;
 mod params;
+mod printing;
 mod publishing;
 mod reading;
 mod requests;
@@ -33,6 +34,7 @@ pub use params::{
     read_compile_params, read_initialize_params, read_inverse_sources_params, read_run_params,
     read_sources_params, read_test_params,
 };
+pub use printing::print_publication;
 pub use publishing::{
     PublishDiagnosticsParams, read_publish_diagnostics_params, write_publish_diagnostics_params,
 };

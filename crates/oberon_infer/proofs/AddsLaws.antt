@@ -18,14 +18,14 @@ pub adds_as : {a b : List OwnSaid} {f g : List Said → List Said} → Adds a b 
 adds_as {a} p same = record { goes = λ rest. p.goes rest ∙ ap (λ y. map plain_said a ++ y) (same rest) }
 
 -- a last call, whose answer is the answer
-pub adds_last : {X E : Type 0} (r : Result X E) {a b c : List OwnSaid} {f g h : List Said → List Said} → Adds a b f → OnOk r (Adds b c g) → ((rest : List Said) → f (g rest) ≡ h rest) → OnOk r (Adds a c h)
-adds_last r {a} {b} {c} {f} {g} {h} p q same = IfOk-weaker r (λ _. Adds b c g) (λ _. Adds a c h) (λ _ last. adds_as (adds_then p last) same) q
+pub adds_last : {X E : Type 0} (r : Result X E) (c : List OwnSaid) (g h : List Said → List Said) {a b : List OwnSaid} {f : List Said → List Said} → Adds a b f → OnOk r (Adds b c g) → ((rest : List Said) → f (g rest) ≡ h rest) → OnOk r (Adds a c h)
+adds_last r c g h {a} {b} {f} p q same = IfOk-weaker r (λ _. Adds b c g) (λ _. Adds a c h) (λ _ last. adds_as (adds_then p last) same) q
 
-pub adds_only : {X E : Type 0} (r : Result X E) {a b : List OwnSaid} {f g : List Said → List Said} → OnOk r (Adds a b f) → ((rest : List Said) → f rest ≡ g rest) → OnOk r (Adds a b g)
-adds_only r {a} {b} {f} {g} p same = IfOk-weaker r (λ _. Adds a b f) (λ _. Adds a b g) (λ _ last. adds_as last same) p
+pub adds_only : {X E : Type 0} (r : Result X E) (a b : List OwnSaid) (f g : List Said → List Said) → OnOk r (Adds a b f) → ((rest : List Said) → f rest ≡ g rest) → OnOk r (Adds a b g)
+adds_only r a b f g p same = IfOk-weaker r (λ _. Adds a b f) (λ _. Adds a b g) (λ _ last. adds_as last same) p
 
-pub is_as : {X E Y : Type 0} (r : Result X E) (plain : X → Y) {y z : Y} → IfOk r (λ x. plain x ≡ y) → y ≡ z → IfOk r (λ x. plain x ≡ z)
-is_as r plain {y} {z} p e = IfOk-weaker r (λ x. plain x ≡ y) (λ x. plain x ≡ z) (λ x is. is ∙ e) p
+pub is_as : {X E Y : Type 0} (r : Result X E) (plain : X → Y) (y z : Y) → IfOk r (λ x. plain x ≡ y) → y ≡ z → IfOk r (λ x. plain x ≡ z)
+is_as r plain y z p e = IfOk-weaker r (λ x. plain x ≡ y) (λ x. plain x ≡ z) (λ x is. is ∙ e) p
 
 -- ---- loops: what is left, from here, is what all was
 
@@ -37,3 +37,6 @@ goes_on {b} {k} p q same = record { goes = λ rest. q.goes (k rest) ∙ ap (λ y
 
 pub goes_end : {a b : List OwnSaid} {f g : List Said → List Said} → Goes a b f g → ((rest : List Said) → g rest ≡ rest) → Adds a b f
 goes_end {b} p same = record { goes = λ rest. ap (λ y. map plain_said b ++ y) (sym (same rest)) ∙ p.goes rest }
+
+pub goes_to : {a b : List OwnSaid} {f g h : List Said → List Said} → Goes a b f g → ((rest : List Said) → g rest ≡ h rest) → Goes a b f h
+goes_to {b} p same = record { goes = λ rest. ap (λ y. map plain_said b ++ y) (sym (same rest)) ∙ p.goes rest }

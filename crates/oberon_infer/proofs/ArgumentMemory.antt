@@ -1,5 +1,5 @@
 -- Arguments in memory: how many they are, and what the parameters want.
-use Rattle.std.specs.Prelude.{◌≡◌, ℕ, ◌+◌, ◌==◌, true, if◌then◌else◌, List, [], ◌∷◌, length, map, Option, Some, None, refl}
+use Rattle.std.specs.Prelude.{◌≡◌, ℕ, ◌+◌, ◌==◌, if◌then◌else◌, List, [], ◌∷◌, length, map, Option, Some, None, refl}
 use Rattle.std.specs.Borrow.{Bor}
 use Rattle.std.specs.declared.alloc.Global.{Global}
 use Rattle.std.specs.declared.boxed.Box.{Box}
@@ -12,10 +12,9 @@ use Rattle.oberon_tree.specs.Trees.{ExprTree, some_arguments, exprs_of}
 use Rattle.oberon_tree.proofs.ExpressionMemory.{exprs_out, next_expr_out}
 use Rattle.oberon_types.specs.declared.entity.Param.{Param}
 use Rattle.oberon_types.specs.declared.entity.Signature.{Signature}
-use Rattle.oberon_types.specs.Memory.{plain_param, plain_signature}
+use Rattle.oberon_types.specs.Memory.{plain_param}
 use Rattle.oberon_types.specs.Entities.{ParamTree}
 use Rattle.oberon_rules.specs.ExpressionRules.{Wanted, a_param, argument_count}
-use Rattle.oberon_rules.specs.Expressions.{a_procedure}
 use Rattle.oberon_infer.specs.declared.ex.Ex.{Ex as OwnEx}
 use Rattle.oberon_infer.specs.declared.ex.Ex.TheVariants as exs
 use Rattle.oberon_infer.specs.Memory.{plain_ex}

@@ -5,6 +5,7 @@ use Rattle.std.specs.declared.alloc.Global.{Global}
 use Rattle.std.specs.declared.boxed.Box.{Box}
 use Rattle.oberon_tree.specs.declared.leaf.Ident.{Ident}
 use Rattle.oberon_tree.specs.declared.expression.Addend.{Addend}
+use Rattle.oberon_tree.specs.declared.expression.Multiplier.{Multiplier}
 use Rattle.oberon_tree.specs.declared.expression.NextExpr.{NextExpr}
 use Rattle.oberon_tree.specs.declared.expression.Selector.{Selector}
 use Rattle.oberon_tree.specs.declared.expression.Signed.{Signed}
@@ -19,7 +20,7 @@ use Rattle.oberon_tree.specs.Memory.{expr_tree, relation_option, simple_tree, ad
 use Rattle.oberon_tree.specs.Trees.{ExprTree, expr_of, simple_of, AddendsTree, no_addends, more_addends, TermTree, term_of, MultipliersTree, no_multipliers, more_multipliers, FactorTree, designator_factor, designator_of, SelectorTree, field_selector, SelectorsTree, more_selectors, exprs_of, MoreExprsTree, no_more_exprs, more_exprs}
 use Rattle.oberon_tree.proofs.ExpressionMemory.{expr_out, relation_out, simple_out, term_out, exprs_out, designator_held, addend_out, next_expr_out}
 use Rattle.oberon_rules.specs.Expressions.{bare_designator, bare_simple, bare_expr}
-use Rattle.oberon_infer.specs.Bare.{is_alone, has_multipliers, has_more, bare_factor, bare_term, sole_argument}
+use Rattle.oberon_infer.specs.Bare.{is_alone, has_addends, has_multipliers, has_more, bare_factor, bare_term, sole_argument}
 
 -- ---- arguments
 
@@ -95,6 +96,10 @@ designator_alone d = ap bare_factor (designator_held d)
 pub some_addends : (xs : List Addend) → 1 ≤ length xs → true ≡ has_addends (addends_list xs)
 some_addends [] h = absurd (omega arith)
 some_addends (x ∷ xs) h = sym (ap has_addends (addend_out x (addends_list xs)))
+
+pub some_multipliers : (xs : List Multiplier) → 1 ≤ length xs → true ≡ has_multipliers (multipliers_list xs)
+some_multipliers [] h = absurd (omega arith)
+some_multipliers (x ∷ xs) h = refl
 
 pub some_more : (xs : List NextExpr) → 1 ≤ length xs → true ≡ has_more (more_exprs_list xs)
 some_more [] h = absurd (omega arith)

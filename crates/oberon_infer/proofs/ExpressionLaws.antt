@@ -1,5 +1,5 @@
 -- Expressions in memory, read as trees.
-use Rattle.std.specs.Prelude.{◌≡◌, ℕ, List, Option, Some, None, Result, OnOk, refl}
+use Rattle.std.specs.Prelude.{◌≡◌, ℕ, List, Some, None, Result, OnOk}
 use Rattle.ob_text.specs.declared.code.Code.TheVariants as codes_of
 use Rattle.ob_text.specs.declared.span.Span.{Span}
 use Rattle.std.proofs.Common.{ap, sym, ◌∙◌}
@@ -56,21 +56,20 @@ element_range x u is =
 -- ---- what is said of an expression, a relation, a factor and an element
 
 module _ (me : List ℕ) (s : Scopes) where
-
-  pub expr_said : {X E : Type 0} (e : Expr) (b : Box Relation Global) (r : Relation) (x : Ex) (place : Span) (answer : Result X E) {o c d f : List OwnSaid} → (out-Expr e).relation ≡ Some b → r ≡ b.value → x ≡ simple_is me s (simple_tree (out-Expr e).left) → place ≡ first_of_simple (simple_tree (out-Expr e).left) → Adds o c (simple_says me s (simple_tree (out-Expr e).left)) → Adds c d (value_row x place) → OnOk answer (Adds d f (relation_says me s x (relation_tree r))) → OnOk answer (Adds o f (expr_says me s (expr_tree e)))
-  expr_said e b r x place answer is held p at u v w =
+  pub expr_said : {X E : Type 0} (e : Expr) (b : Box Relation Global) (r : Relation) (x : Ex) (place : Span) (answer : Result X E) (f : List OwnSaid) {o c d : List OwnSaid} → (out-Expr e).relation ≡ Some b → r ≡ b.value → x ≡ simple_is me s (simple_tree (out-Expr e).left) → place ≡ first_of_simple (simple_tree (out-Expr e).left) → Adds o c (simple_says me s (simple_tree (out-Expr e).left)) → Adds c d (value_row x place) → OnOk answer (Adds d f (relation_says me s x (relation_tree r))) → OnOk answer (Adds o f (expr_says me s (expr_tree e)))
+  expr_said e b r x place answer f is held p at u v w =
       let a = simple_tree (out-Expr e).left in
       let whole = relation_of (out-Relation r).operator (out-Relation r).span (simple_tree (out-Relation r).right) in
-      adds_last answer (adds_then u v) w (λ rest.
+      adds_last answer f (relation_says me s x (relation_tree r)) (expr_says me s (expr_tree e)) (adds_then u v) w (λ rest.
       ap (λ y. simple_says me s a (value_row x y (relation_says me s x (relation_tree r) rest))) at
       ∙ ap (λ y. simple_says me s a (value_row y (first_of_simple a) (relation_says me s y (relation_tree r) rest))) p
       ∙ ap (λ y. simple_says me s a (value_row (simple_is me s a) (first_of_simple a) (relation_says me s (simple_is me s a) y rest))) (relation_out r)
       ∙ sym (ap (λ y. expr_says me s y rest) (expr_related e b r is held ∙ ap (expr_of a) (relation_out r))))
 
-  pub relation_said : {X E : Type 0} (r : Relation) (x y : Ex) (answer : Result X E) {o c d : List OwnSaid} → y ≡ simple_is me s (simple_tree (out-Relation r).right) → Adds o c (simple_says me s (simple_tree (out-Relation r).right)) → OnOk answer (Adds c d (related_says s x (out-Relation r).operator (out-Relation r).span (simple_tree (out-Relation r).right) y)) → OnOk answer (Adds o d (relation_says me s x (relation_tree r)))
-  relation_said r x y answer p u v =
+  pub relation_said : {X E : Type 0} (r : Relation) (x y : Ex) (answer : Result X E) (d : List OwnSaid) {o c : List OwnSaid} → y ≡ simple_is me s (simple_tree (out-Relation r).right) → Adds o c (simple_says me s (simple_tree (out-Relation r).right)) → OnOk answer (Adds c d (related_says s x (out-Relation r).operator (out-Relation r).span (simple_tree (out-Relation r).right) y)) → OnOk answer (Adds o d (relation_says me s x (relation_tree r)))
+  relation_said r x y answer d p u v =
       let b = simple_tree (out-Relation r).right in
-      adds_last answer u v (λ rest.
+      adds_last answer d (related_says s x (out-Relation r).operator (out-Relation r).span b y) (relation_says me s x (relation_tree r)) u v (λ rest.
       ap (λ z. simple_says me s b (related_says s x (out-Relation r).operator (out-Relation r).span b z rest)) p
       ∙ relation_parts me s x (out-Relation r).operator (out-Relation r).span b rest
       ∙ sym (ap (λ t. relation_says me s x t rest) (relation_out r)))
@@ -94,7 +93,7 @@ module _ (me : List ℕ) (s : Scopes) where
       ∙ ap (λ y. expr_says me s e (value_row y (first_of_expr e) rest)) p
       ∙ value_parts me s e rest)
 
-  pub negation_said : {X E : Type 0} (t : FactorTree) (tilde place : Span) (x : Ex) (answer : Result X E) {o c d : List OwnSaid} → x ≡ factor_is me s t → place ≡ first_of_factor t → Adds o c (factor_says me s t) → OnOk answer (Adds c d (λ rest. value_row x place (row (is_bad (not_fits (class_of x))) tilde codes_of.BadOperand rest))) → OnOk answer (Adds o d (factor_says me s (negation_factor tilde t)))
-  negation_said t tilde place x answer p at u v = adds_last answer u v (λ rest.
+  pub negation_said : {X E : Type 0} (t : FactorTree) (tilde place : Span) (x : Ex) (answer : Result X E) (d : List OwnSaid) {o c : List OwnSaid} → x ≡ factor_is me s t → place ≡ first_of_factor t → Adds o c (factor_says me s t) → OnOk answer (Adds c d (λ rest. value_row x place (row (is_bad (not_fits (class_of x))) tilde codes_of.BadOperand rest))) → OnOk answer (Adds o d (factor_says me s (negation_factor tilde t)))
+  negation_said t tilde place x answer d p at u v = adds_last answer d (λ rest. value_row x place (row (is_bad (not_fits (class_of x))) tilde codes_of.BadOperand rest)) (factor_says me s (negation_factor tilde t)) u v (λ rest.
       ap (λ y. factor_says me s t (value_row x y (row (is_bad (not_fits (class_of x))) tilde codes_of.BadOperand rest))) at
       ∙ ap (λ y. factor_says me s t (value_row y (first_of_factor t) (row (is_bad (not_fits (class_of y))) tilde codes_of.BadOperand rest))) p)

@@ -6,3 +6,4 @@ pub mod ArgumentMemory
 pub mod BareMemory
 pub mod TurnLaws
 pub mod ExpressionLaws
+pub mod InferLaws

@@ -1,5 +1,6 @@
 -- The rules, split where the code splits them.
-use Rattle.std.specs.Prelude.{◌≡◌, ℕ, Bool, true, false, ◌&&◌, if◌then◌else◌, not, List, [], ◌∷◌, Option, Some, None, refl}
+use Rattle.std.specs.Prelude.{◌≡◌, ℕ, Bool, true, false, ◌&&◌, if◌then◌else◌, not, List, [], ◌∷◌, Option, Some, None, is_some, refl}
+use Rattle.std.specs.Option.{option_map}
 use Rattle.std.proofs.Common.{ap, sym, ◌∙◌}
 use Rattle.ob_text.specs.declared.span.Span.{Span}
 use Rattle.oberon_tree.specs.declared.leaf.Ident.{Ident}
@@ -8,17 +9,17 @@ use Rattle.oberon_rules.specs.Names.{member_is}
 use Rattle.oberon_tree.specs.declared.expression.Signed.{Signed}
 use Rattle.oberon_tree.specs.declared.expression.Relator.{Relator}
 use Rattle.oberon_tree.specs.declared.expression.Relator.TheVariants as relators
-use Rattle.oberon_tree.specs.FirstSpans.{first_of_expr, first_of_simple, first_of_term, first_of_factor}
-use Rattle.oberon_tree.specs.Trees.{ExprTree, expr_of, relation_of, SimpleTree, simple_of, AddendsTree, no_addends, more_addends, TermTree, term_of, MultipliersTree, no_multipliers, more_multipliers, FactorTree, designator_factor, ElementsTree, no_elements, some_elements, MoreElementsTree, no_more_elements, more_elements, ElementTree, element_of, UpperTree, no_upper, upper_of, SelectorTree, field_selector, index_selector, call_selector, ArgumentsTree, no_arguments, some_arguments, ExprsTree, exprs_of, MoreExprsTree, no_more_exprs, more_exprs}
-use Rattle.oberon_types.specs.Types.{TyTree, unknown_ty, integer_ty, byte_ty, char_ty, boolean_ty, set_ty, string_ty, array_ty, open_ty, record_ty}
-use Rattle.oberon_rules.specs.Scopes.{Access, Predeclared, abs_word, odd_word, len_word, lsl_word, asr_word, ror_word, ord_word, chr_word, inc_word, dec_word, incl_word, excl_word, assert_word, Meaning, unknown_meaning, constant_meaning, type_meaning, variable_meaning, procedure_meaning, word_meaning, import_meaning, Scopes, Said, row}
-use Rattle.oberon_rules.specs.Expressions.{Ex, nothing, a_value, a_variable, a_type, a_module, a_procedure, a_word, a_call, ex_of, ty_of, expr_is, relation_is, simple_is, term_is, factor_is, signed_is, elements_are, more_elements_are, element_is, all_whole, is_whole, selected, arguments_are, exprs_are, more_exprs_are, argument_type, indexed_type, elements_type, element_type, or_unknown, type_meant, member_meant, word_called, guarded}
-use Rattle.oberon_rules.specs.ExpressionRules.{value_says, expr_says, relation_says, simple_says, addends_say, term_says, multipliers_say, factor_says, value_row, sign_row, left_row, member_rows, indexed, is_guarded, is_bad_guard, call_rows, wants, argument_count, takes_arguments}
+use Rattle.oberon_tree.specs.FirstSpans.{first_of_expr, first_of_term, first_of_factor}
+use Rattle.oberon_tree.specs.Trees.{ExprTree, expr_of, relation_of, SimpleTree, simple_of, AddendsTree, no_addends, more_addends, TermTree, term_of, MultipliersTree, no_multipliers, more_multipliers, FactorTree, some_elements, MoreElementsTree, no_more_elements, more_elements, ElementTree, element_of, no_upper, upper_of, field_selector, index_selector, call_selector, ArgumentsTree, ExprsTree}
+use Rattle.oberon_types.specs.Types.{TyTree, unknown_ty, record_ty}
+use Rattle.oberon_rules.specs.Scopes.{Access, Predeclared, abs_word, Meaning, unknown_meaning, type_meaning, import_meaning, Scopes, Said, row}
+use Rattle.oberon_rules.specs.Expressions.{Ex, nothing, a_variable, a_module, a_procedure, a_word, ex_of, ty_of, expr_is, relation_is, simple_is, term_is, factor_is, signed_is, elements_are, more_elements_are, element_is, all_whole, is_whole, selected, arguments_are, argument_type, indexed_type, or_unknown, type_meant, member_meant, word_called, guarded}
+use Rattle.oberon_rules.specs.ExpressionRules.{value_says, expr_says, relation_says, simple_says, addends_say, term_says, multipliers_say, factor_says, value_row, sign_row, member_rows, indexed, is_guarded, is_bad_guard, call_rows, wants, argument_count, takes_arguments}
 use Rattle.oberon_rules.specs.Operators.{is_bad}
 use Rattle.ob_text.specs.declared.code.Code.TheVariants as codes_of
 use Rattle.oberon_infer.specs.Bare.{is_alone, has_multipliers, ex_meant, meant_of_module}
-use Rattle.oberon_infer.specs.Given.{Given, none_given, one_given, two_given, many_given, given_with, given_behind, word_given}
-use Rattle.oberon_infer.specs.Parts.{operand_rows, related_is, related_says, wants_of, field_selected, field_rows, member_selected, indexed_part, guard_of, called_with, called_rows}
+use Rattle.oberon_infer.specs.Given.{Given, none_given, many_given, given_behind, word_given}
+use Rattle.oberon_infer.specs.Parts.{operand_rows, related_is, related_says, wants_of, field_rows, member_selected, indexed_part, guard_of, called_with, called_rows}
 use Rattle.oberon_infer.specs.Sets.{is_whole_element, are_whole}
 
 -- ---- operators
@@ -151,3 +152,9 @@ pub member_meant_parts : (m : Meaning) (at : Ident) → meant_of_module (ex_of m
 member_meant_parts unknown_meaning at = refl
 member_meant_parts (import_meaning v) at = refl
 member_meant_parts _ at = refl
+
+pub none_is_bad : {X Y : Type 0} (f : X → Y) (o : Option X) (none : Bool) → is_some o ≡ not none → none ≡ is_bad (option_map f o)
+none_is_bad f None true h = refl
+none_is_bad f None false h = absurd cc
+none_is_bad f (Some x) true h = absurd cc
+none_is_bad f (Some x) false h = refl

@@ -4,7 +4,7 @@ use Rattle.std.specs.Map.{lookup}
 use Rattle.std.proofs.Common.{ap, sym, ◌∙◌}
 use Rattle.indexmap.specs.IndexMap.{insert_entry}
 use Rattle.oberon_types.specs.Types.{same_name}
-use Rattle.oberon_rules.specs.Scopes.{Meaning, look_up}
+use Rattle.oberon_rules.specs.Scopes.{look_up}
 use Rattle.oberon_infer.specs.declared.scope.Binding.{Binding}
 use Rattle.std.specs.Borrow.{Bor}
 use Rattle.std.specs.Option.{option_map, option_copied}

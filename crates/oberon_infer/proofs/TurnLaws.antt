@@ -1,28 +1,26 @@
 -- What is said of operands, selectors, indices and arguments, one after the other.
-use Rattle.std.specs.Prelude.{◌≡◌, ℕ, Bool, not, List, ◌∷◌, Option, Some, None, refl}
+use Rattle.std.specs.Prelude.{◌≡◌, ℕ, Bool, not, List, Option, refl}
 use Rattle.std.proofs.Common.{ap, sym, ◌∙◌}
 use Rattle.ob_text.specs.declared.code.Code.TheVariants as codes_of
 use Rattle.ob_text.specs.declared.span.Span.{Span}
-use Rattle.oberon_tree.specs.declared.leaf.Ident.{Ident}
 use Rattle.oberon_tree.specs.declared.expression.Signed.{Signed}
 use Rattle.oberon_tree.specs.declared.expression.AddOperator.{AddOperator}
 use Rattle.oberon_tree.specs.declared.expression.MulOperator.{MulOperator}
 use Rattle.oberon_tree.specs.FirstSpans.{first_of_expr, first_of_term, first_of_factor}
-use Rattle.oberon_tree.specs.Trees.{ExprTree, SimpleTree, simple_of, AddendsTree, no_addends, more_addends, TermTree, term_of, MultipliersTree, no_multipliers, more_multipliers, FactorTree, ElementTree, MoreElementsTree, no_more_elements, more_elements, some_elements, DesignatorTree, designator_of, SelectorTree, SelectorsTree, no_selectors, more_selectors, ExprsTree, exprs_of, MoreExprsTree, no_more_exprs, more_exprs}
+use Rattle.oberon_tree.specs.Trees.{ExprTree, simple_of, AddendsTree, no_addends, more_addends, TermTree, term_of, MultipliersTree, no_multipliers, more_multipliers, FactorTree, SelectorTree, SelectorsTree, more_selectors, exprs_of, MoreExprsTree, no_more_exprs, more_exprs}
 use Rattle.oberon_types.specs.Types.{TyTree}
 use Rattle.oberon_rules.specs.Scopes.{Scopes, Said, row}
 use Rattle.oberon_rules.specs.Operators.{add_fits, mul_fits, is_bad}
 use Rattle.oberon_rules.specs.Expressions.{Ex, class_of, outcome_is, signed_is, element_type, or_unknown, expr_is, simple_is, addends_are, term_is, multipliers_are, factor_is, selected, selectors_are}
-use Rattle.oberon_rules.specs.ExpressionRules.{Wanted, first_wanted, later_wanted, value_row, sign_row, index_rows, argument_rows, expr_says, simple_says, addends_say, term_says, multipliers_say, factor_says, element_says, more_elements_say, selector_says, selectors_say, indices_say, more_indices_say, exprs_say, more_exprs_say}
+use Rattle.oberon_rules.specs.ExpressionRules.{Wanted, first_wanted, later_wanted, value_row, sign_row, index_rows, argument_rows, expr_says, simple_says, addends_say, term_says, multipliers_say, factor_says, selector_says, selectors_say, indices_say, more_indices_say, exprs_say, more_exprs_say}
 use Rattle.oberon_infer.specs.declared.said.Said.{Said as OwnSaid}
 use Rattle.oberon_infer.specs.Adds.{Goes, Adds}
 use Rattle.oberon_infer.specs.Bare.{is_alone, has_multipliers}
 use Rattle.oberon_infer.specs.Parts.{operand_rows}
-use Rattle.oberon_infer.proofs.AddsLaws.{adds_then, adds_as, goes_none, goes_on, goes_end}
+use Rattle.oberon_infer.proofs.AddsLaws.{adds_then, adds_as, goes_on, goes_end}
 use Rattle.oberon_infer.proofs.PartLaws.{simple_parts, term_parts}
 
 module _ (me : List ℕ) (s : Scopes) where
-
   -- ---- addends
 
   pub simple_done : (sign : Option Signed) (first : TermTree) (more : AddendsTree) (f x z : Ex) → f ≡ term_is me s first → x ≡ signed_is sign f → addends_are me s x more ≡ z → z ≡ simple_is me s (simple_of sign first more)

@@ -1,11 +1,10 @@
 -- Parts of the rules that have a function of their own in code.
-use Rattle.std.specs.Prelude.{ℕ, ◌==◌, Bool, true, false, not, if◌then◌else◌, List, [], ◌∷◌, length, map, is_some, Option, Some, None}
+use Rattle.std.specs.Prelude.{ℕ, ◌==◌, Bool, true, false, not, if◌then◌else◌, List, [], ◌∷◌, length, map, Option, Some, None}
 use Rattle.ob_text.specs.declared.code.Code.TheVariants as codes_of
 use Rattle.ob_text.specs.declared.span.Span.{Span}
 use Rattle.oberon_tree.specs.declared.leaf.Member.{Member}
 use Rattle.oberon_tree.specs.declared.expression.Relator.{Relator}
 use Rattle.oberon_tree.specs.declared.expression.Relator.TheVariants as relators
-use Rattle.oberon_tree.specs.declared.expression.Signed.{Signed}
 use Rattle.oberon_tree.specs.FirstSpans.{first_of_simple}
 use Rattle.oberon_tree.specs.Trees.{SimpleTree}
 use Rattle.oberon_types.specs.Entities.{ParamTree}
@@ -15,7 +14,7 @@ use Rattle.oberon_rules.specs.Scopes.{Scopes, Said, broken, row, import_meaning}
 use Rattle.oberon_rules.specs.Names.{member_is}
 use Rattle.oberon_rules.specs.Operators.{Class, whole_class, set_class, relation_fits, is_bad}
 use Rattle.oberon_rules.specs.Expressions.{Ex, nothing, a_variable, a_module, a_procedure, a_word, ex_of, ty_of, class_of, outcome_is, bare_simple, bare_type, is_tested, part_of, guarded, called}
-use Rattle.oberon_rules.specs.ExpressionRules.{Wanted, a_param, word_wants, value_row, whole_row, sign_row, unless_type, is_bad_test, field_row, is_bad_guard, takes_arguments}
+use Rattle.oberon_rules.specs.ExpressionRules.{Wanted, a_param, word_wants, value_row, whole_row, unless_type, is_bad_test, field_row, is_bad_guard, takes_arguments}
 use Rattle.oberon_infer.specs.declared.operator.Outcome.{Outcome as OwnOutcome}
 use Rattle.oberon_infer.specs.declared.operator.Outcome.TheVariants as outcomes
 use Rattle.oberon_infer.specs.Given.{Given, word_given}

@@ -1,6 +1,6 @@
 -- Sets: whether all ends of their elements are whole numbers, and what is said of them.
-use Rattle.std.specs.Prelude.{ℕ, Bool, true, ◌&&◌, List}
-use Rattle.oberon_tree.specs.Trees.{SetTree, set_of, ElementTree, element_of, MoreElementsTree, no_more_elements, more_elements, UpperTree, no_upper, upper_of}
+use Rattle.std.specs.Prelude.{ℕ, Bool, ◌&&◌, List}
+use Rattle.oberon_tree.specs.Trees.{SetTree, set_of, ElementTree, element_of, MoreElementsTree, no_more_elements, more_elements, no_upper, upper_of}
 use Rattle.oberon_rules.specs.Scopes.{Scopes, Said}
 use Rattle.oberon_rules.specs.Expressions.{expr_is, elements_are, all_whole, is_whole, ty_of}
 use Rattle.oberon_rules.specs.ExpressionRules.{elements_say}

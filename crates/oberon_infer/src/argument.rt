@@ -139,7 +139,11 @@ pub fn or_nothing<'b>(expected: Option<Expected<'b>>) -> Expected<'b>
 fn one_wanted<'b>(count: usize, first: Wanted<'b>) -> Option<Expected<'b>>
     ensures { plain_expected_option result ≡ one_wanted count (plain_wanted first.entry) }
 {
-    if count == 1 { Some(Expected::One(first)) } else { None }
+    if count == 1 {
+        Some(Expected::One(first))
+    } else {
+        None
+    }
 }
 
 fn two_wanted<'b>(count: usize, first: Wanted<'b>, second: Wanted<'b>) -> Option<Expected<'b>>
@@ -226,12 +230,7 @@ pub fn add_argument_rows(
     }
 }
 
-fn add_wanted_rows(
-    wanted: Wanted,
-    x: Ex,
-    span: Span,
-    said: &mut Vec<Said>,
-) -> Result<(), NoMemory>
+fn add_wanted_rows(wanted: Wanted, x: Ex, span: Span, said: &mut Vec<Said>) -> Result<(), NoMemory>
     ensures { OnOk result (Adds said.old.items said.new.items (wanted_rows (plain_wanted wanted.entry) (plain_ex x.entry) span)) }
 {
     let ty = x.ty();
@@ -256,12 +255,7 @@ fn add_wanted_rows(
 }
 
 /// Says what is broken where a variable is changed.
-pub fn add_changed_rows(
-    x: Ex,
-    fits: bool,
-    span: Span,
-    said: &mut Vec<Said>,
-) -> Result<(), NoMemory>
+pub fn add_changed_rows(x: Ex, fits: bool, span: Span, said: &mut Vec<Said>) -> Result<(), NoMemory>
     ensures { OnOk result (Adds said.old.items said.new.items (changed_rows (plain_ex x.entry) fits span)) }
 {
     match x {

@@ -8,14 +8,14 @@ use crate::ex::{Ex, ex_of};
 use crate::names::{Named, look_up, member};
 use crate::scope::Scopes;
 use crate::type_ref::TypeRef;
-use oberon_tree::{Addend, Designator, Expr, Exprs, Factor, Ident, Multiplier, NextExpr, Selector, Signed, Simple, Term};
+use oberon_tree::{
+    Addend, Designator, Expr, Exprs, Factor, Ident, Multiplier, NextExpr, Selector, Signed, Simple,
+    Term,
+};
 
 /// The type that an argument names, where there is one argument and it is a name alone. Where nobody knows, it is
 /// unknown; None where it is no type.
-pub fn argument_type<'b>(
-    scopes: &'b Scopes,
-    arguments: &Option<Box<Exprs>>,
-) -> Option<TypeRef<'b>>
+pub fn argument_type<'b>(scopes: &'b Scopes, arguments: &Option<Box<Exprs>>) -> Option<TypeRef<'b>>
     ensures { plain_type_option result ≡ argument_type (plain_scopes scopes.now) (arguments_option arguments.now) }
 {
     match arguments {

@@ -15,11 +15,16 @@ use crate::operand::{add_operand_rows, added, judged_end, multiplied, negated, r
 use crate::rows::add_value_row;
 use crate::said::{Said, add_row};
 use crate::scope::Scopes;
-use crate::selector::{add_call_rows, add_index_rows, called_with, guard_of, indexed, indexed_part, or_unknown, select_member};
+use crate::selector::{
+    add_call_rows, add_index_rows, called_with, guard_of, indexed, indexed_part, or_unknown,
+    select_member,
+};
 use crate::type_ref::TypeRef;
 use crate::word::Given;
 use ob_text::{Code, Name, NoMemory, Span};
-use oberon_tree::{Designator, Element, Expr, Exprs, Factor, Relation, Selector, Set, Simple, Term};
+use oberon_tree::{
+    Designator, Element, Expr, Exprs, Factor, Relation, Selector, Set, Simple, Term,
+};
 
 /// What an expression is where a type may be meant, and what is said of it (The Programming Language Oberon-07,
 /// section 8). `me` is the stem of the module whose text this is.

@@ -27,7 +27,9 @@ pub use argument::{add_changed_rows, value_fits, var_fits};
 pub use bare::{bare_type, type_meant};
 pub use ex::{Ex, ex_of};
 pub use infer::{expression, value};
-pub use names::{Named, last_name, look_up, member, name, of_view, resolve, type_named, view_member};
+pub use names::{
+    Named, last_name, look_up, member, name, of_view, resolve, type_named, view_member,
+};
 pub use operator::Class;
 pub use rows::{add_value_row, add_whole_row};
 pub use said::{Said, add, add_broken, add_named, add_row};

@@ -35,11 +35,7 @@ pub fn add_operand_rows(
 }
 
 /// What a term is behind its sign, and what is said of it (The Programming Language Oberon-07, section 8.2).
-pub fn signed<'b>(
-    sign: Option<Signed>,
-    x: Ex<'b>,
-    said: &mut Vec<Said>,
-) -> Result<Ex<'b>, NoMemory>
+pub fn signed<'b>(sign: Option<Signed>, x: Ex<'b>, said: &mut Vec<Said>) -> Result<Ex<'b>, NoMemory>
     ensures is { IfOk result (λ y. plain_ex y ≡ signed_is sign (plain_ex x.entry)) }
     ensures says { OnOk result (Adds said.old.items said.new.items (sign_row sign (plain_ex x.entry))) }
 {
@@ -95,12 +91,7 @@ pub fn multiplied<'b>(
 }
 
 /// What `~` makes of an operand that begins at `at`, and what is said behind it.
-pub fn negated<'b>(
-    x: Ex,
-    tilde: Span,
-    at: Span,
-    said: &mut Vec<Said>,
-) -> Result<Ex<'b>, NoMemory>
+pub fn negated<'b>(x: Ex, tilde: Span, at: Span, said: &mut Vec<Said>) -> Result<Ex<'b>, NoMemory>
     ensures is { IfOk result (λ y. plain_ex y ≡ outcome_is (not_fits (class_of (plain_ex x.entry)))) }
     ensures says { OnOk result (Adds said.old.items said.new.items (λ rest. value_row (plain_ex x.entry) at (row (is_bad (not_fits (class_of (plain_ex x.entry)))) tilde codes_of.BadOperand rest))) }
 {
@@ -122,7 +113,14 @@ pub fn related<'b>(
     ensures says { OnOk result (Adds said.old.items said.new.items (related_says (plain_scopes scopes.now) (plain_ex x.entry) relator span (simple_tree right.now) (plain_ex y.entry))) }
 {
     match relator {
-        Relator::Is => tested(x, bare_type(scopes, right), span, y, right.first_span(), said),
+        Relator::Is => tested(
+            x,
+            bare_type(scopes, right),
+            span,
+            y,
+            right.first_span(),
+            said,
+        ),
         Relator::Equal => compared(x, relator, span, y, right.first_span(), said),
         Relator::Unequal => compared(x, relator, span, y, right.first_span(), said),
         Relator::Less => compared(x, relator, span, y, right.first_span(), said),

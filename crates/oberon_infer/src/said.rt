@@ -64,12 +64,7 @@ pub fn add_named<'a>(
 }
 
 /// Says that a rule is broken at a place, where it is.
-pub fn add_row(
-    said: &mut Vec<Said>,
-    broken: bool,
-    span: Span,
-    code: Code,
-) -> Result<(), NoMemory>
+pub fn add_row(said: &mut Vec<Said>, broken: bool, span: Span, code: Code) -> Result<(), NoMemory>
     ensures { OnOk result (Adds said.old.items said.new.items (row broken span code)) }
 {
     if broken {

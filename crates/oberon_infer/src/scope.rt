@@ -80,7 +80,12 @@ impl<'a> Scope<'a> {
     }
 
     /// Declares a name behind all others.
-    pub fn declare(&mut self, alloc: Global, name: &Name, binding: Binding<'a>) -> Result<(), NoMemory>
+    pub fn declare(
+        &mut self,
+        alloc: Global,
+        name: &Name,
+        binding: Binding<'a>,
+    ) -> Result<(), NoMemory>
         requires { is_some (look_up name.now (plain_scope self.old)) ≡ false }
         ensures { OnOk result (plain_scope self.new ≡ plain_scope self.old ++ plain_binding name.now binding.entry ∷ []) }
     {
@@ -106,7 +111,12 @@ impl<'a> Scopes<'a> {
     }
 
     /// Declares a name that the scope lacks.
-    pub fn declare(&mut self, alloc: Global, name: &Name, binding: Binding<'a>) -> Result<(), NoMemory>
+    pub fn declare(
+        &mut self,
+        alloc: Global,
+        name: &Name,
+        binding: Binding<'a>,
+    ) -> Result<(), NoMemory>
         requires { is_declared (plain_scopes self.old) name.now ≡ false }
         ensures { OnOk result (plain_scopes self.new ≡ declare (plain_scopes self.old) name.now binding.entry.exported (plain_meaning binding.entry.meaning)) }
     {

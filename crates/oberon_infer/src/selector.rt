@@ -188,7 +188,12 @@ pub fn add_call_rows(
     ensures { OnOk result (Adds said.old.items said.new.items (called_rows at (plain_ex x.entry) bracket (plain_type_option guard.entry) bad_count)) }
 {
     match guard {
-        Some(guard) => add_row(said, is_bad_guard(x.ty(), guard), bracket, Code::BadSelector),
+        Some(guard) => add_row(
+            said,
+            is_bad_guard(x.ty(), guard),
+            bracket,
+            Code::BadSelector,
+        ),
         None => {
             add_row(said, !takes_arguments(x), bracket, Code::BadSelector)?;
             add_row(said, bad_count, at, Code::ArgumentCount)

@@ -6,22 +6,39 @@ ghost use Rattle.oberon_infer.specs.Memory.{plain_standard};
 use ob_text::Name;
 
 const INTEGER: &[u8] = b"INTEGER";
+
 const BYTE: &[u8] = b"BYTE";
+
 const CHAR: &[u8] = b"CHAR";
+
 const BOOLEAN: &[u8] = b"BOOLEAN";
+
 const SET: &[u8] = b"SET";
+
 const ABS: &[u8] = b"ABS";
+
 const ODD: &[u8] = b"ODD";
+
 const LEN: &[u8] = b"LEN";
+
 const LSL: &[u8] = b"LSL";
+
 const ASR: &[u8] = b"ASR";
+
 const ROR: &[u8] = b"ROR";
+
 const ORD: &[u8] = b"ORD";
+
 const CHR: &[u8] = b"CHR";
+
 const INC: &[u8] = b"INC";
+
 const DEC: &[u8] = b"DEC";
+
 const INCL: &[u8] = b"INCL";
+
 const EXCL: &[u8] = b"EXCL";
+
 const ASSERT: &[u8] = b"ASSERT";
 
 /// A predeclared procedure (The Programming Language Oberon-07, section 10.2).

@@ -78,91 +78,54 @@ fn cuts_in_any_pieces(rt: HostRuntime) -> Result<(), Fail> {
     Ok(())
 }
 
+/// A stream, and the place and the kind of its damage.
+const DAMAGED: [(&[u8], u64, DamageKind); 29] = [
+    (b"\n", 0, DamageKind::BadLine),
+    (b": 1\r\n", 0, DamageKind::BadLine),
+    (b"a b: 1\r\n", 1, DamageKind::BadLine),
+    (b"Content-Length : 1", 14, DamageKind::BadLine),
+    (b"A\r\n", 1, DamageKind::BadLine),
+    (b"A: \x7f", 3, DamageKind::BadLine),
+    (b"A: b\n", 4, DamageKind::BadLine),
+    (b"Content-Length: 2\n", 17, DamageKind::BadLine),
+    (b"Content-Length: 2\r\r", 18, DamageKind::BadLine),
+    (b"Content-Length: 2\r\n\r\r", 20, DamageKind::BadLine),
+    (b"Content-Length: 2\xc3", 17, DamageKind::BadLine),
+    (b"Content-Length: 2 \x00", 18, DamageKind::BadLine),
+    (
+        b"Content-Length: 2\r\nContent-Length: 2\r\n\r\n",
+        33,
+        DamageKind::TwoLengths,
+    ),
+    (
+        b"content-length: 1\r\nA:\r\nCONTENT-Length:",
+        37,
+        DamageKind::TwoLengths,
+    ),
+    (b"Content-Length: \r\n", 16, DamageKind::BadLength),
+    (b"Content-Length:\r\n", 15, DamageKind::BadLength),
+    (b"Content-Length:-1", 15, DamageKind::BadLength),
+    (b"Content-Length: 1:", 17, DamageKind::BadLength),
+    (b"Content-Length: 1 2", 18, DamageKind::BadLength),
+    (b"Content-Length: 1\t,", 18, DamageKind::BadLength),
+    (b"Content-Length: 000000020", 24, DamageKind::BadLength),
+    (b"Content-Length: 167772160", 24, DamageKind::BadLength),
+    (b"Content-Length: 16777217", 23, DamageKind::TooLong),
+    (b"Content-Length: 99999999", 23, DamageKind::TooLong),
+    (b"\r\n", 0, DamageKind::NoLength),
+    (b"A: b\r\n\r\n", 6, DamageKind::NoLength),
+    (b"Content-Lengthy: 5\r\n\r\n", 20, DamageKind::NoLength),
+    (b"Content-Length: 0\r\n\r\n\r\n", 21, DamageKind::NoLength),
+    (
+        b"X: 1\r\nContent-Length: 3\r\n\r\nabcContent-Length: x",
+        46,
+        DamageKind::BadLength,
+    ),
+];
+
 #[test]
 fn tells_where_and_why(rt: HostRuntime) -> Result<(), Fail> {
-    for (stream, place, kind) in [
-        (b"\n".as_slice(), 0, DamageKind::BadLine),
-        (b": 1\r\n".as_slice(), 0, DamageKind::BadLine),
-        (b"a b: 1\r\n".as_slice(), 1, DamageKind::BadLine),
-        (b"Content-Length : 1".as_slice(), 14, DamageKind::BadLine),
-        (b"A\r\n".as_slice(), 1, DamageKind::BadLine),
-        (b"A: \x7f".as_slice(), 3, DamageKind::BadLine),
-        (b"A: b\n".as_slice(), 4, DamageKind::BadLine),
-        (b"Content-Length: 2\n".as_slice(), 17, DamageKind::BadLine),
-        (b"Content-Length: 2\r\r".as_slice(), 18, DamageKind::BadLine),
-        (
-            b"Content-Length: 2\r\n\r\r".as_slice(),
-            20,
-            DamageKind::BadLine,
-        ),
-        (b"Content-Length: 2\xc3".as_slice(), 17, DamageKind::BadLine),
-        (
-            b"Content-Length: 2 \x00".as_slice(),
-            18,
-            DamageKind::BadLine,
-        ),
-        (
-            b"Content-Length: 2\r\nContent-Length: 2\r\n\r\n".as_slice(),
-            33,
-            DamageKind::TwoLengths,
-        ),
-        (
-            b"content-length: 1\r\nA:\r\nCONTENT-Length:".as_slice(),
-            37,
-            DamageKind::TwoLengths,
-        ),
-        (
-            b"Content-Length: \r\n".as_slice(),
-            16,
-            DamageKind::BadLength,
-        ),
-        (b"Content-Length:\r\n".as_slice(), 15, DamageKind::BadLength),
-        (b"Content-Length:-1".as_slice(), 15, DamageKind::BadLength),
-        (b"Content-Length: 1:".as_slice(), 17, DamageKind::BadLength),
-        (b"Content-Length: 1 2".as_slice(), 18, DamageKind::BadLength),
-        (
-            b"Content-Length: 1\t,".as_slice(),
-            18,
-            DamageKind::BadLength,
-        ),
-        (
-            b"Content-Length: 000000020".as_slice(),
-            24,
-            DamageKind::BadLength,
-        ),
-        (
-            b"Content-Length: 167772160".as_slice(),
-            24,
-            DamageKind::BadLength,
-        ),
-        (
-            b"Content-Length: 16777217".as_slice(),
-            23,
-            DamageKind::TooLong,
-        ),
-        (
-            b"Content-Length: 99999999".as_slice(),
-            23,
-            DamageKind::TooLong,
-        ),
-        (b"\r\n".as_slice(), 0, DamageKind::NoLength),
-        (b"A: b\r\n\r\n".as_slice(), 6, DamageKind::NoLength),
-        (
-            b"Content-Lengthy: 5\r\n\r\n".as_slice(),
-            20,
-            DamageKind::NoLength,
-        ),
-        (
-            b"Content-Length: 0\r\n\r\n\r\n".as_slice(),
-            21,
-            DamageKind::NoLength,
-        ),
-        (
-            b"X: 1\r\nContent-Length: 3\r\n\r\nabcContent-Length: x".as_slice(),
-            46,
-            DamageKind::BadLength,
-        ),
-    ] {
+    for (stream, place, kind) in DAMAGED {
         assert!(rt; stream.len() < 100);
         for size in 1..=stream.len() {
             let outcome = read(rt.alloc(), stream, size)?;
@@ -177,20 +140,23 @@ fn tells_where_and_why(rt: HostRuntime) -> Result<(), Fail> {
     Ok(())
 }
 
+/// Streams that are right as far as they go.
+const UNDAMAGED: [&[u8]; 10] = [
+    b"",
+    b"Content-Length: 16777216\r\n\r\n",
+    b"Content-Length: 1677721",
+    b"Content-Length: 00000002",
+    b"Content-Length:  \t 2 \t\r\n",
+    b"Content-Length: 2\r\nContent-Length",
+    b"Content-Length: 2\r\nContent-Length-2: 3\r\nContent-Lengt: 4\r\n\r",
+    b"0-9: ~ \t:\r\n",
+    b"Content-Length: 5\r\n\r\n{\"a",
+    b"Content-Length: 2\r\n\r\n\r\n-",
+];
+
 #[test]
 fn tells_no_damage_before_its_place(rt: HostRuntime) -> Result<(), Fail> {
-    for stream in [
-        b"".as_slice(),
-        b"Content-Length: 16777216\r\n\r\n".as_slice(),
-        b"Content-Length: 1677721".as_slice(),
-        b"Content-Length: 00000002".as_slice(),
-        b"Content-Length:  \t 2 \t\r\n".as_slice(),
-        b"Content-Length: 2\r\nContent-Length".as_slice(),
-        b"Content-Length: 2\r\nContent-Length-2: 3\r\nContent-Lengt: 4\r\n\r".as_slice(),
-        b"0-9: ~ \t:\r\n".as_slice(),
-        b"Content-Length: 5\r\n\r\n{\"a".as_slice(),
-        b"Content-Length: 2\r\n\r\n\r\n-".as_slice(),
-    ] {
+    for stream in UNDAMAGED {
         assert!(rt; stream.len() < 100);
         let mut decoder = Decoder::new(rt.alloc());
         assert_eq!(rt; decoder.feed(stream), Ok(()), "{stream:?}");
@@ -210,37 +176,24 @@ fn long_header(alloc: Global, line: usize, end: &[u8]) -> Result<Vec<u8>, Fail> 
     Ok(stream)
 }
 
+/// How long the first line of a header part is, what ends that part, and the place and the kind of the damage, if any.
+/// Two lines of 1,022 bytes, and the empty line, are 1,024 bytes.
+const HEADERS: [(usize, &[u8], Option<(u64, DamageKind)>); 9] = [
+    (1_003, b"\r\n", None),
+    (1_003, b"\r\nContent-Length: 0\r\n\r\n", None),
+    (1_003, b"\rX", Some((1_023, DamageKind::BadLine))),
+    (1_004, b"\r", None),
+    (1_004, b"\r\n", Some((1_024, DamageKind::HeaderTooLong))),
+    (1_004, b"\rX", Some((1_024, DamageKind::HeaderTooLong))),
+    (1_005, b"", None),
+    (1_005, b"\n", Some((1_024, DamageKind::HeaderTooLong))),
+    (1_003, b"B: c", Some((1_024, DamageKind::HeaderTooLong))),
+];
+
 #[test]
 fn holds_a_header_part_to_its_limit(rt: HostRuntime) -> Result<(), Fail> {
     let alloc = rt.alloc();
-    // Two lines of 1,022 bytes, and the empty line: 1,024 bytes.
-    for (line, end, told) in [
-        (1_003, b"\r\n".as_slice(), None),
-        (1_003, b"\r\nContent-Length: 0\r\n\r\n".as_slice(), None),
-        (1_003, b"\rX".as_slice(), Some((1_023, DamageKind::BadLine))),
-        (1_004, b"\r".as_slice(), None),
-        (
-            1_004,
-            b"\r\n".as_slice(),
-            Some((1_024, DamageKind::HeaderTooLong)),
-        ),
-        (
-            1_004,
-            b"\rX".as_slice(),
-            Some((1_024, DamageKind::HeaderTooLong)),
-        ),
-        (1_005, b"".as_slice(), None),
-        (
-            1_005,
-            b"\n".as_slice(),
-            Some((1_024, DamageKind::HeaderTooLong)),
-        ),
-        (
-            1_003,
-            b"B: c".as_slice(),
-            Some((1_024, DamageKind::HeaderTooLong)),
-        ),
-    ] {
+    for (line, end, told) in HEADERS {
         let stream = long_header(alloc, line, end)?;
         assert!(rt; stream.len() < 2_048);
         let damage = told.map(|(place, kind)| Damage { place, kind });

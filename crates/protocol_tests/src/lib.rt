@@ -1,5 +1,5 @@
 //! Tests of the public calls of the crates that read and write the protocol: `rpc_frame`, `rpc_peer`,
-//! `bsp_records`, `task_stream` and `target_graph`. They stand above those crates, so that none is proved once
+//! `bsp_records` and `task_stream`. They stand above those crates, so that none is proved once
 //! more with its tests. There is nothing here to call.
 #![tactic(auto)]
 
@@ -11,5 +11,3 @@ mod messages;
 mod records;
 #[cfg(test)]
 mod streams;
-#[cfg(test)]
-mod workspaces;

@@ -206,24 +206,62 @@ fn writes_a_failure(rt: HostRuntime) -> Result<(), Fail> {
     Ok(())
 }
 
+/// What is called of the open ids.
+#[derive(Clone, Copy, Debug)]
+enum Call {
+    Begin,
+    Close,
+    IsOpen,
+}
+
+/// Calls one after another: what is called, with which id, what it answers, and which id is the first one then. The
+/// ids go by their numbers in `id_of`.
+const CALLS: [(Call, u32, bool, u32); 10] = [
+    (Call::Begin, 0, true, 0),
+    (Call::Begin, 1, true, 0),
+    (Call::Begin, 2, true, 0),
+    (Call::Begin, 0, false, 0),
+    (Call::Close, 3, false, 0),
+    (Call::Close, 0, true, 1),
+    (Call::IsOpen, 0, false, 1),
+    (Call::IsOpen, 1, true, 1),
+    (Call::Begin, 0, true, 1),
+    (Call::Close, 1, true, 2),
+];
+
+fn id_of(alloc: Global, number: u32) -> Result<Id, NoMemory> {
+    match number {
+        0 => Ok(Id::Number(7)),
+        1 => Ok(Id::Text(Name::new(alloc, b"7")?)),
+        2 => Ok(Id::Number(-7)),
+        _ => Ok(Id::Number(8)),
+    }
+}
+
+fn called(open: &mut OpenIds, call: Call, id: Id) -> Result<bool, NoMemory> {
+    match call {
+        Call::Begin => match open.begin(id) {
+            Ok(()) => Ok(true),
+            Err(BeginFault::AlreadyOpen) => Ok(false),
+            Err(BeginFault::NoMemory) => Err(NoMemory),
+        },
+        Call::Close => Ok(open.close(&id)),
+        Call::IsOpen => Ok(open.is_open(&id)),
+    }
+}
+
 #[test]
 fn keeps_open_ids_in_order(rt: HostRuntime) -> Result<(), Fail> {
     let alloc = rt.alloc();
-    let seven = Id::Text(Name::new(alloc, b"7")?);
     let mut open = OpenIds::new(alloc)?;
     assert!(rt; open.first().is_none());
-    assert!(rt; open.begin(Id::Number(7)) == Ok(()));
-    assert!(rt; open.begin(seven.copy(alloc)?) == Ok(()));
-    assert!(rt; open.begin(Id::Number(-7).copy(alloc)?) == Ok(()));
-    assert!(rt; open.begin(Id::Number(7)) == Err(BeginFault::AlreadyOpen));
-    assert!(rt; open.first() == Some(&Id::Number(7)));
-    assert!(rt; !open.close(&Id::Number(8)));
-    assert!(rt; open.close(&Id::Number(7)));
-    assert!(rt; !open.is_open(&Id::Number(7)));
-    assert!(rt; open.is_open(&seven));
-    assert!(rt; open.first() == Some(&seven));
-    assert!(rt; open.begin(Id::Number(7)) == Ok(()));
-    assert!(rt; open.close(&seven));
-    assert!(rt; open.first() == Some(&Id::Number(-7)));
+    for (call, number, want, first) in CALLS {
+        let id = id_of(alloc, number)?.copy(alloc)?;
+        assert_eq!(rt; called(&mut open, call, id)?, want, "{call:?} {number}");
+        assert!(rt;
+            open.first() == Some(&id_of(alloc, first)?),
+            "{call:?} {number}"
+        );
+    }
     Ok(())
 }

@@ -2,10 +2,13 @@ ghost use Rattle.std.specs.Prelude.{IfOk};
 ghost use Rattle.std.specs.List.{All};
 ghost use Rattle.bsp_records.specs.Shown.{HasPlainName};
 
+use bsp_records::{PublishDiagnosticsParams, read_publish_diagnostics_params};
 use ob_text::{Code, Diagnostic, NoMemory, Position, Range, Span, Text};
+use serde_json::Value;
 use std::alloc::Global;
+use std::sync::Arc;
 use std::test::Fail;
-use task_stream::{Address, Shown};
+use task_stream::{Address, Piece, Shown};
 
 fn bad_character(place: u32) -> Diagnostic
     ensures { HasPlainName result }
@@ -40,6 +43,14 @@ fn many(alloc: Global, count: u32) -> Result<Vec<Diagnostic>, NoMemory>
     Ok(list)
 }
 
+/// The params of a piece, as a client reads them.
+fn params(alloc: Global, piece: &Piece) -> Result<PublishDiagnosticsParams, Fail> {
+    let mut text = Vec::new(alloc);
+    piece.print(alloc, &mut text)?;
+    let value = Value::from_str(alloc, std::str::from_utf8(text.as_slice())?)?;
+    Ok(read_publish_diagnostics_params(alloc, &value)?)
+}
+
 #[test]
 fn publishes_in_pieces_what_is_not_shown(rt: HostRuntime) -> Result<(), Fail> {
     let alloc = rt.alloc();
@@ -48,14 +59,20 @@ fn publishes_in_pieces_what_is_not_shown(rt: HostRuntime) -> Result<(), Fail> {
         target: Text::new(alloc, "file:///w/?id=app".as_bytes())?,
     };
     let mut shown = Shown::new(alloc);
-    let list = many(alloc, 250)?;
-    let pieces = shown.publish(&address, &None, list.as_slice())?;
+    let origin = Arc::new(alloc, None)?;
+    let pieces = shown.publish(&address, &origin, many(alloc, 250)?)?;
     assert_eq!(rt; pieces.len(), 3);
-    assert_eq!(rt; pieces.as_slice()[0].diagnostics.as_slice().len(), 100);
-    assert_eq!(rt; pieces.as_slice()[2].diagnostics.as_slice().len(), 50);
-    assert!(rt; pieces.as_slice()[0].reset);
-    assert!(rt; !pieces.as_slice()[1].reset);
-    assert_eq!(rt; shown.publish(&address, &None, list.as_slice())?.len(), 0);
-    assert_eq!(rt; shown.publish(&address, &None, &[])?.len(), 1);
+    let first = params(alloc, &pieces.as_slice()[0])?;
+    let second = params(alloc, &pieces.as_slice()[1])?;
+    let last = params(alloc, &pieces.as_slice()[2])?;
+    assert_eq!(rt; first.diagnostics.as_slice().len(), 100);
+    assert_eq!(rt; last.diagnostics.as_slice().len(), 50);
+    assert!(rt; first.reset);
+    assert!(rt; !second.reset);
+    assert_eq!(rt;
+        shown.publish(&address, &origin, many(alloc, 250)?)?.len(),
+        0
+    );
+    assert_eq!(rt; shown.publish(&address, &origin, many(alloc, 0)?)?.len(), 1);
     Ok(())
 }

@@ -8,10 +8,9 @@ use Rattle.std.specs.Str.{bytes_eq}
 use Rattle.std.proofs.lemmas.List.{drop_more}
 use Rattle.std.proofs.lemmas.List.Elements.{All-head, All-tail}
 use Rattle.std.proofs.lemmas.Option.{slice_get_read}
-use Rattle.ob_text.specs.Held.{IsReadable}
+use Rattle.ob_text.specs.Held.{Entries, IsReadable}
 use Rattle.ob_text.specs.Held.{held_at}
 use Rattle.ob_text.specs.declared.held.Held.{Held}
-use Rattle.session_law.specs.Order.{Entries}
 use Rattle.session_build.specs.Handed.{held_by}
 
 -- one entry more, before the others

@@ -1,4 +1,5 @@
 pub mod RoundTrip
 pub mod HandedLaws
 pub mod Publications
-pub mod Placing
+pub mod DocumentLaws
+pub mod OutgoingLaws

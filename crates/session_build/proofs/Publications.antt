@@ -15,7 +15,9 @@ use Rattle.serde_json.proofs.OnLiterals.{serde_json_on_literals}
 use Rattle.bsp_records.specs.Diagnostics.{publish_diagnostics_params_data}
 use Rattle.json_shape.specs.Shapes.{IsTextWithin}
 use Rattle.ob_text.specs.Ascii.{IsWithin}
-use Rattle.bsp_records.specs.Short.{publication_limit}
+use Rattle.bsp_records.proofs.PublicationLaws.{publication_exact}
+use Rattle.bsp_records.proofs.ShortLaws.{publication_short}
+use Rattle.bsp_records.specs.Short.{IsShortPublication, publication_limit}
 use Rattle.bsp_records.specs.Shown.{shown}
 use Rattle.bsp_records.specs.Table as tables
 use Rattle.bsp_records.specs.Table.{Table, is_about, published}
@@ -26,10 +28,10 @@ use Rattle.ob_text.specs.declared.held.Held.{Held}
 use Rattle.ob_text.specs.declared.diagnostic.Diagnostic.{Diagnostic}
 use Rattle.oberon_check.specs.Diagnosed.{Diagnosed}
 use Rattle.rpc_peer.specs.Said.{Said, notification, body_of}
-use Rattle.session_law.specs.Builds.{Finding, IsFound, Publishes, PublishesSome, Shows, handed_at, has_error, is_error_severity, none, one_more, publication_in, publication_said, published_if, shown_by, table_with}
+use Rattle.session_law.specs.Builds.{Finding, IsFound, Publishes, PublishesSome, Shows, handed_at, has_error, is_error_severity, none, one_more, publication_in, publication_said, published_if, shown_by, table_behind}
 use Rattle.session_law.specs.IsFramed.{IsFramed}
-use Rattle.session_law.specs.Order.{Entries}
-use Rattle.session_law.specs.declared.Place.{Place}
+use Rattle.ob_text.specs.Held.{Entries}
+use Rattle.session_law.specs.declared.BuildDocument.{BuildDocument}
 use Rattle.session_build.specs.Publishing.{IsNotice, IsPublished, IsPublishedOne, finding_of}
 use Rattle.session_build.proofs.RoundTrip.{publication_back}
 use Rattle.task_stream.specs.Pieces.{pieces}
@@ -42,9 +44,9 @@ said_shows : (p : PublishDiagnosticsParams) (table : Table) → shown_by (public
 said_shows p table = ap (λ q. published q table) (publication_back p)
 
 -- messages of publications show what the publications do
-pub all_shown : (ps : List PublishDiagnosticsParams) (table : Table) → table_with (map publication_said ps) table ≡ tables.table_with ps table
+pub all_shown : (ps : List PublishDiagnosticsParams) (table : Table) → table_behind (map publication_said ps) table ≡ tables.table_with ps table
 all_shown [] table = refl
-all_shown (p ∷ ps) table = ap (table_with (map publication_said ps)) (said_shows p table) ∙ all_shown ps (published p table)
+all_shown (p ∷ ps) table = ap (table_behind (map publication_said ps)) (said_shows p table) ∙ all_shown ps (published p table)
 
 -- ---- tables that show the same
 
@@ -56,50 +58,50 @@ if_same None a b same document target = same document target
 if_same (Some p) a b same document target =
     ap (λ (list : List DiagnosticRecord). if is_about p document target then (if p.reset then p.diagnostics else list ++ p.diagnostics) else list) (same document target)
 
-pub table_same : (messages : List Said) (a b : Table) → Same a b → Same (table_with messages a) (table_with messages b)
+pub table_same : (messages : List Said) (a b : Table) → Same a b → Same (table_behind messages a) (table_behind messages b)
 table_same [] a b same = same
 table_same (m ∷ messages) a b same = table_same messages (shown_by m a) (shown_by m b) (if_same (publication_in m) a b same)
 
 -- what is published is the same where the tables show the same
 publishes_same : (a b : Table) (origin : Option (List ℕ)) (finding : Finding) (messages : List Said) → Same a b → Publishes a origin finding messages → Publishes b origin finding messages
 publishes_same a b origin finding messages same publishes = record {
-  same = λ shows. publishes.same (same finding.place.address.document finding.place.address.target ∙ shows);
-  other = λ differs. publishes.other (λ shows. differs (sym (same finding.place.address.document finding.place.address.target) ∙ shows));
+  same = λ shows. publishes.same (same finding.document.address.document finding.document.address.target ∙ shows);
+  other = λ differs. publishes.other (λ shows. differs (sym (same finding.document.address.document finding.document.address.target) ∙ shows));
 }
 
 -- ---- a further document
 
-abbrev IsApart : Place → Place → Type 0
-IsApart place earlier = is_at place.address earlier.address.document earlier.address.target ≡ false
+abbrev IsApart : BuildDocument → BuildDocument → Type 0
+IsApart it earlier = is_at it.address earlier.address.document earlier.address.target ≡ false
 
 -- what was shown of the earlier documents still is
-shows_on : (mid new : Table) (place : Place) (findings : List Finding) → ((document target : List ℕ) → is_at place.address document target ≡ false → new document target ≡ mid document target)
-    → All (λ (f : Finding). IsApart place f.place) findings → All (Shows mid) findings → All (Shows new) findings
-shows_on mid new place findings elsewhere apart shows k d h =
+shows_on : (mid new : Table) (it : BuildDocument) (findings : List Finding) → ((document target : List ℕ) → is_at it.address document target ≡ false → new document target ≡ mid document target)
+    → All (λ (f : Finding). IsApart it f.document) findings → All (Shows mid) findings → All (Shows new) findings
+shows_on mid new it findings elsewhere apart shows k d h =
     elsewhere _ _ (apart k d h) ∙ shows k d h
 
-places_all : (P : Place → Type 0) (findings : List Finding) (places : List Place) → map (λ (f : Finding). f.place) findings ≡ places → All P places → All (λ (f : Finding). P f.place) findings
-places_all P [] places is all = All-nil (λ (f : Finding). P f.place)
-places_all P (f ∷ findings) places is all =
-    let all' : All P (f.place ∷ map (λ (f : Finding). f.place) findings) = subst (All P) (sym is) all in
-    All-cons (λ (f : Finding). P f.place) f findings (All-head P f.place (map (λ (f : Finding). f.place) findings) all')
-    (places_all P findings (map (λ (f : Finding). f.place) findings) refl (All-tail P f.place (map (λ (f : Finding). f.place) findings) all'))
+documents_all : (P : BuildDocument → Type 0) (findings : List Finding) (documents : List BuildDocument) → map (λ (f : Finding). f.document) findings ≡ documents → All P documents → All (λ (f : Finding). P f.document) findings
+documents_all P [] documents is all = All-nil (λ (f : Finding). P f.document)
+documents_all P (f ∷ findings) documents is all =
+    let all' : All P (f.document ∷ map (λ (f : Finding). f.document) findings) = subst (All P) (sym is) all in
+    All-cons (λ (f : Finding). P f.document) f findings (All-head P f.document (map (λ (f : Finding). f.document) findings) all')
+    (documents_all P findings (map (λ (f : Finding). f.document) findings) refl (All-tail P f.document (map (λ (f : Finding). f.document) findings) all'))
 
 at_itself : (a : Address) → is_at a a.document a.target ≡ true
 at_itself a = ap (λ x. x && bytes_eq a.target a.target) ((bytes_eq-Decides a.document a.document).1 refl) ∙ (bytes_eq-Decides a.target a.target).1 refl
 
 -- a document that is apart from those that were published isn't one of them
-fresh : (place : Place) (findings : List Finding) (finding : Finding) → finding.place ≡ place → All (λ (f : Finding). IsApart place f.place) findings → ¬ (Contains findings finding)
-fresh place findings finding is apart there =
-    let own : IsApart place finding.place = All-contains (λ (f : Finding). IsApart place f.place) findings finding apart there in
-    let same : is_at place.address place.address.document place.address.target ≡ false =
-    subst (λ (p : Place). IsApart place p) is own in
-    true≢false (sym (at_itself place.address) ∙ same)
+fresh : (it : BuildDocument) (findings : List Finding) (finding : Finding) → finding.document ≡ it → All (λ (f : Finding). IsApart it f.document) findings → ¬ (Contains findings finding)
+fresh it findings finding is apart there =
+    let own : IsApart it finding.document = All-contains (λ (f : Finding). IsApart it f.document) findings finding apart there in
+    let same : is_at it.address it.address.document it.address.target ≡ false =
+    subst (λ (p : BuildDocument). IsApart it p) is own in
+    true≢false (sym (at_itself it.address) ∙ same)
 
 pub none_published : (table : Table) (origin : Option (List ℕ)) (entries : Entries) → IsPublished table table [] origin entries [] false
 none_published table origin entries = record {
   findings = [];
-  of_places = refl;
+  of_documents = refl;
   found = All-nil (IsFound entries);
   publishes = none;
   framed = All-nil IsFramed;
@@ -109,28 +111,28 @@ none_published table origin entries = record {
   failed_is = refl;
 }
 
-pub one_published : (old mid new : Table) (places : List Place) (place : Place) (origin : Option (List ℕ)) (entries : Entries) (held : Held) (before after : List Said) (failed one_failed : Bool)
-    → held ≡ handed_at entries place.path → All (IsApart place) places
-    → IsPublished old mid places origin entries before failed → IsPublishedOne mid new place origin held before after one_failed
-    → IsPublished old new (places ++ place ∷ []) origin entries after (failed || one_failed)
-one_published old mid new places place origin entries held before after failed one_failed is apart all one =
-    let finding : Finding = finding_of place one.list in
+pub one_published : (old mid new : Table) (documents : List BuildDocument) (it : BuildDocument) (origin : Option (List ℕ)) (entries : Entries) (held : Held) (before after : List Said) (failed one_failed : Bool)
+    → held ≡ handed_at entries it.path → All (IsApart it) documents
+    → IsPublished old mid documents origin entries before failed → IsPublishedOne mid new it origin held before after one_failed
+    → IsPublished old new (documents ++ it ∷ []) origin entries after (failed || one_failed)
+one_published old mid new documents it origin entries held before after failed one_failed is apart all one =
+    let finding : Finding = finding_of it one.list in
     record {
       findings = all.findings ++ finding ∷ [];
-      of_places = map-append (λ (f : Finding). f.place) all.findings (finding ∷ []) ∙ ap (λ (ps : List Place). ps ++ place ∷ []) all.of_places;
+      of_documents = map-append (λ (f : Finding). f.document) all.findings (finding ∷ []) ∙ ap (λ (ps : List BuildDocument). ps ++ it ∷ []) all.of_documents;
       found = All-push (IsFound entries) all.findings finding all.found (subst (λ (h : Held). Diagnosed h one.list) is one.found);
       publishes =
           subst (PublishesSome old origin (all.findings ++ finding ∷ [])) (sym one.messages)
-          (one_more finding one.own all.publishes (fresh place all.findings finding refl (places_all (IsApart place) all.findings places all.of_places apart)) (publishes_same mid (table_with before old) origin finding one.own all.kept one.publishes));
+          (one_more finding one.own all.publishes (fresh it all.findings finding refl (documents_all (IsApart it) all.findings documents all.of_documents apart)) (publishes_same mid (table_behind before old) origin finding one.own all.kept one.publishes));
       framed = subst (All IsFramed) (sym one.messages) (All-append IsFramed before one.own all.framed one.framed);
       notices = subst (All IsNotice) (sym one.messages) (All-append IsNotice before one.own all.notices one.notices);
       kept = λ document target.
           one.kept document target
-          ∙ (table_same one.own mid (table_with before old) all.kept document target
-          ∙ ap (λ (t : Table). t document target) (sym (ap (λ ms. table_with ms old) one.messages ∙ fold-append (λ shows m. shown_by m shows) old before one.own)));
+          ∙ (table_same one.own mid (table_behind before old) all.kept document target
+          ∙ ap (λ (t : Table). t document target) (sym (ap (λ ms. table_behind ms old) one.messages ∙ fold-append (λ shows m. shown_by m shows) old before one.own)));
       shows =
           All-push (Shows new) all.findings finding
-          (shows_on mid new place all.findings one.elsewhere (places_all (IsApart place) all.findings places all.of_places apart) all.shows) one.shows;
+          (shows_on mid new it all.findings one.elsewhere (documents_all (IsApart it) all.findings documents all.of_documents apart) all.shows) one.shows;
       failed_is =
           ap (λ b. b || one_failed) all.failed_is
           ∙ (ap (λ b. list_any has_error all.findings || b) (one.failed_is ∙ sym (or_last (has_error finding)))
@@ -155,19 +157,19 @@ apart_at a b differs = by_tests (bytes_eq a.document b.document) (bytes_eq a.tar
     by_tests false t h k = ap (λ x. x && bytes_eq a.target b.target) h
 
 -- a document is apart from each before it
-pub apart_before : (places : List Place) (i : ℕ) (place : Place) → i < length places → place ≡ get_or places i place → AllPairs ◌≢◌ (map (λ (p : Place). p.address) places)
-    → All (IsApart place) (take i places)
-apart_before places i place h e distinct k d k_in =
-    let size : length (map (λ (p : Place). p.address) places) ≡ length places = length-map places (λ (p : Place). p.address) in
-    let front : length (take i places) ≡ i = length-take-le i places (omega arith) in
+pub apart_before : (documents : List BuildDocument) (i : ℕ) (it : BuildDocument) → i < length documents → it ≡ get_or documents i it → AllPairs ◌≢◌ (map (λ (p : BuildDocument). p.address) documents)
+    → All (IsApart it) (take i documents)
+apart_before documents i it h e distinct k d k_in =
+    let size : length (map (λ (p : BuildDocument). p.address) documents) ≡ length documents = length-map documents (λ (p : BuildDocument). p.address) in
+    let front : length (take i documents) ≡ i = length-take-le i documents (omega arith) in
     let below : k < i = omega (arith, front) in
-    let earlier : Place = get_or (take i places) k d in
-    let is : earlier ≡ get_or places k place = get_or-take i places k d below ∙ get_or_default places k d place (omega arith) in
-    let this : get_or (map (λ (p : Place). p.address) places) i place.address ≡ place.address =
-    get_or-map (λ (p : Place). p.address) places i place place.address h ∙ ap (λ (p : Place). p.address) (sym e) in
-    let that : get_or (map (λ (p : Place). p.address) places) k place.address ≡ earlier.address =
-    get_or-map (λ (p : Place). p.address) places k place place.address (omega arith) ∙ ap (λ (p : Place). p.address) (sym is) in
-    apart_at place.address earlier.address (λ same. distinct k i place.address below (omega (arith, size)) (that ∙ (sym same ∙ sym this)))
+    let earlier : BuildDocument = get_or (take i documents) k d in
+    let is : earlier ≡ get_or documents k it = get_or-take i documents k d below ∙ get_or_default documents k d it (omega arith) in
+    let this : get_or (map (λ (p : BuildDocument). p.address) documents) i it.address ≡ it.address =
+    get_or-map (λ (p : BuildDocument). p.address) documents i it it.address h ∙ ap (λ (p : BuildDocument). p.address) (sym e) in
+    let that : get_or (map (λ (p : BuildDocument). p.address) documents) k it.address ≡ earlier.address =
+    get_or-map (λ (p : BuildDocument). p.address) documents k it it.address (omega arith) ∙ ap (λ (p : BuildDocument). p.address) (sym is) in
+    apart_at it.address earlier.address (λ same. distinct k i it.address below (omega (arith, size)) (that ∙ (sym same ∙ sym this)))
 
 -- ---- one document
 
@@ -175,15 +177,15 @@ notices_of : (ps : List PublishDiagnosticsParams) → All IsNotice (map publicat
 notices_of [] = All-nil IsNotice
 notices_of (p ∷ ps) = All-cons IsNotice (publication_said p) (map publication_said ps) refl (notices_of ps)
 
-pub one_shown : (old new : Table) (place : Place) (origin : Option (List ℕ)) (held : Held) (before after : List Said) (list : List Diagnostic) (ps : List PublishDiagnosticsParams) (failed : Bool)
+pub one_shown : (old new : Table) (it : BuildDocument) (origin : Option (List ℕ)) (held : Held) (before after : List Said) (list : List Diagnostic) (ps : List PublishDiagnosticsParams) (failed : Bool)
     → Diagnosed held list
-    → (old place.address.document place.address.target ≡ map shown list → ps ≡ [])
-    → (old place.address.document place.address.target ≢ map shown list → ps ≡ pieces place.address origin (map shown list))
-    → ((document target : List ℕ) → tables.table_with ps old document target ≡ (if is_at place.address document target then map shown list else old document target))
-    → ((document target : List ℕ) → new document target ≡ (if is_at place.address document target then map shown list else old document target))
+    → (old it.address.document it.address.target ≡ map shown list → ps ≡ [])
+    → (old it.address.document it.address.target ≢ map shown list → ps ≡ pieces it.address origin (map shown list))
+    → ((document target : List ℕ) → tables.table_with ps old document target ≡ (if is_at it.address document target then map shown list else old document target))
+    → ((document target : List ℕ) → new document target ≡ (if is_at it.address document target then map shown list else old document target))
     → after ≡ before ++ map publication_said ps → All IsFramed (map publication_said ps)
-    → failed ≡ list_any (λ (d : Diagnostic). is_error_severity (severity_of d.code)) list → IsPublishedOne old new place origin held before after failed
-one_shown old new place origin held before after list ps failed found same other client table messages framed failed_is =
+    → failed ≡ list_any (λ (d : Diagnostic). is_error_severity (severity_of d.code)) list → IsPublishedOne old new it origin held before after failed
+one_shown old new it origin held before after list ps failed found same other client table messages framed failed_is =
     record {
       list = list;
       own = map publication_said ps;
@@ -197,8 +199,8 @@ one_shown old new place origin held before after list ps failed found same other
       notices = notices_of ps;
       kept = λ document target.
           table document target ∙ (sym (client document target) ∙ ap (λ (t : Table). t document target) (sym (all_shown ps old)));
-      shows = table place.address.document place.address.target
-          ∙ ap (λ b. if b then map shown list else old place.address.document place.address.target) (at_itself place.address);
+      shows = table it.address.document it.address.target
+          ∙ ap (λ b. if b then map shown list else old it.address.document it.address.target) (at_itself it.address);
       elsewhere = λ document target apart. table document target ∙ ap (λ b. if b then map shown list else old document target) apart;
       failed_is = failed_is;
     }
@@ -213,7 +215,7 @@ notice_short : (params : Data) → length (body_of (notification (codes "build/p
 unfolding body_of serde_json_on_literals
 notice_short params = let l = length-append (compact_text params) (members_text true no_members) in omega (arith, l)
 
-pub framed_publication : (p : PublishDiagnosticsParams) → has_float (publish_diagnostics_params_data p) ≡ false
+framed_publication : (p : PublishDiagnosticsParams) → has_float (publish_diagnostics_params_data p) ≡ false
     → length (compact_text (publish_diagnostics_params_data p)) ≤ publication_limit → IsFramed (publication_said p)
 unfolding lib.Utf8.encode
 framed_publication p exact short = record {
@@ -222,3 +224,11 @@ framed_publication p exact short = record {
   exact = rw exact refl;
   fits = (let whole = notice_short (publish_diagnostics_params_data p) in omega (arith, whole, short));
 }
+
+-- each publication that is short is a message of the server
+pub all_framed : (ps : List PublishDiagnosticsParams) → All IsShortPublication ps → All IsFramed (map publication_said ps)
+all_framed [] all = All-nil IsFramed
+all_framed (p ∷ ps) all =
+    All-cons IsFramed (publication_said p) (map publication_said ps)
+    (framed_publication p (publication_exact p) (publication_short p (All-head IsShortPublication p ps all)))
+    (all_framed ps (All-tail IsShortPublication p ps all))

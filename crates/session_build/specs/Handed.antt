@@ -5,10 +5,9 @@ use Rattle.std.specs.List.{slice_get}
 use Rattle.std.specs.Option.{option_copied}
 use Rattle.std.specs.Str.{bytes_eq}
 use Rattle.indexmap.specs.IndexMap.{IndexMap, get}
-use Rattle.ob_text.specs.Held.{held_at}
+use Rattle.ob_text.specs.Held.{Entries, held_at}
 use Rattle.ob_text.specs.declared.held.Held.{Held}
 use Rattle.ob_text.specs.declared.held.Held.TheVariants.{Absent}
-use Rattle.session_law.specs.Order.{Entries}
 
 abbrev pub held_by : Entries → Option ℕ → Option Held
 held_by entries None = None

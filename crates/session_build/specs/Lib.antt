@@ -1,3 +1,4 @@
-pub mod Placed
+pub mod Outgoing
+pub mod Documents
 pub mod Publishing
 pub mod Handed

@@ -6,43 +6,43 @@ use Rattle.ob_text.specs.declared.diagnostic.Diagnostic.{Diagnostic}
 use Rattle.ob_text.specs.declared.held.Held.{Held}
 use Rattle.oberon_check.specs.Diagnosed.{Diagnosed}
 use Rattle.rpc_peer.specs.Said.{Said}
-use Rattle.session_law.specs.Builds.{Finding, IsFound, Publishes, PublishesSome, Shows, has_error, is_publication, table_with}
+use Rattle.session_law.specs.Builds.{Finding, IsFound, Publishes, PublishesSome, Shows, has_error, is_publication, table_behind}
 use Rattle.session_law.specs.IsFramed.{IsFramed}
-use Rattle.session_law.specs.Order.{Entries}
-use Rattle.session_law.specs.declared.Place.{Place}
+use Rattle.ob_text.specs.Held.{Entries}
+use Rattle.session_law.specs.declared.BuildDocument.{BuildDocument}
 use Rattle.task_stream.specs.Showing.{is_at}
 
 -- the message publishes something
 abbrev pub IsNotice : Said → Type 0
 IsNotice m = is_publication m ≡ true
 
-pub record IsPublished (old new : Table) (places : List Place) (origin : Option (List ℕ)) (entries : Entries) (messages : List Said) (failed : Bool) : Type 0 where
+pub record IsPublished (old new : Table) (documents : List BuildDocument) (origin : Option (List ℕ)) (entries : Entries) (messages : List Said) (failed : Bool) : Type 0 where
   pub findings : List Finding
   -- each document with its diagnostics, in order
-  pub of_places : map (λ finding. finding.place) findings ≡ places
+  pub of_documents : map (λ finding. finding.document) findings ≡ documents
   pub found : All (IsFound entries) findings
   pub publishes : PublishesSome old origin findings messages
   pub framed : All IsFramed messages
   pub notices : All IsNotice messages
   -- the table that is kept is the one that a client has, and it shows each list
-  pub kept : (document target : List ℕ) → new document target ≡ table_with messages old document target
+  pub kept : (document target : List ℕ) → new document target ≡ table_behind messages old document target
   pub shows : All (Shows new) findings
   pub failed_is : failed ≡ list_any has_error findings
 
-abbrev pub finding_of : Place → List Diagnostic → Finding
-finding_of place list = record { place = place; list = list }
+abbrev pub finding_of : BuildDocument → List Diagnostic → Finding
+finding_of it list = record { document = it; list = list }
 
 -- the same of one document, by what was handed out for it. Its messages go behind others.
-pub record IsPublishedOne (old new : Table) (place : Place) (origin : Option (List ℕ)) (held : Held) (before after : List Said) (failed : Bool) : Type 0 where
+pub record IsPublishedOne (old new : Table) (it : BuildDocument) (origin : Option (List ℕ)) (held : Held) (before after : List Said) (failed : Bool) : Type 0 where
   pub list : List Diagnostic
   pub own : List Said
   pub found : Diagnosed held list
-  pub publishes : Publishes old origin (finding_of place list) own
+  pub publishes : Publishes old origin (finding_of it list) own
   pub messages : after ≡ before ++ own
   pub framed : All IsFramed own
   pub notices : All IsNotice own
-  pub kept : (document target : List ℕ) → new document target ≡ table_with own old document target
-  pub shows : Shows new (finding_of place list)
+  pub kept : (document target : List ℕ) → new document target ≡ table_behind own old document target
+  pub shows : Shows new (finding_of it list)
   -- what is shown elsewhere stays
-  pub elsewhere : (document target : List ℕ) → is_at place.address document target ≡ false → new document target ≡ old document target
-  pub failed_is : failed ≡ has_error (finding_of place list)
+  pub elsewhere : (document target : List ℕ) → is_at it.address document target ≡ false → new document target ≡ old document target
+  pub failed_is : failed ≡ has_error (finding_of it list)

@@ -2,12 +2,14 @@
 //!
 //! It stands on `target_graph` for the documents, on `oberon_check` for their diagnostics, on `task_stream` for what
 //! a client shows, and on `session_law`, which says what a build publishes. It knows one build, and nothing of other
-//! requests. Begin with `publish_all` and `specs/Publishing.antt`.
+//! requests. Begin with `publish_all` and `specs/Publishing.antt`; what is published waits as `Outgoing` (`outgoing.rt`).
 #![tactic(auto)]
 
+mod documents;
 mod handed;
-mod places;
+mod outgoing;
 mod publishing;
 
-pub use places::{paths_of, places_of};
+pub use documents::{documents_of, paths_of};
+pub use outgoing::Outgoing;
 pub use publishing::{Published, publish_all};

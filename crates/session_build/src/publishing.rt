@@ -1,35 +1,32 @@
-ghost use Rattle.std.specs.Prelude.{◌≡◌, ◌≢◌, ◌++◌, ◌||◌, ℕ, map, IfOk, IfSome, OnOk};
+ghost use Rattle.std.specs.Prelude.{◌≡◌, ◌≢◌, ◌++◌, map, IfOk, IfSome, OnOk};
 ghost use Rattle.std.specs.List.{All, AllPairs, list_any};
 ghost use Rattle.ob_text.specs.Held.{IsReadable};
-ghost use Rattle.bsp_records.specs.Diagnostics.{HasPublishTexts, publish_diagnostics_params_data};
 ghost use Rattle.json_shape.specs.Shapes.{IsTextWithin};
-ghost use Rattle.bsp_records.specs.Short.{IsShortPublication};
 ghost use Rattle.bsp_records.specs.Limits.{origin_limit};
 ghost use Rattle.bsp_records.specs.Shown.{HasPlainName};
 ghost use Rattle.ob_text.specs.Code.{severity_of};
 ghost use Rattle.oberon_check.specs.Diagnosed.{Diagnosed};
-ghost use Rattle.rpc_peer.specs.Said.{said};
 ghost use Rattle.session_law.specs.Builds.{is_error_severity, publication_said};
-ghost use Rattle.session_law.specs.IsFramed.{IsFramed};
+ghost use Rattle.session_build.specs.Outgoing.{outgoing_said};
 ghost use Rattle.session_build.specs.Handed.{held_or_absent};
-ghost use Rattle.session_build.specs.Placed.{HasPlainAddress};
+ghost use Rattle.session_build.specs.Documents.{HasPlainAddress};
 ghost use Rattle.session_build.specs.Publishing.{IsPublished, IsPublishedOne};
 ghost use Rattle.task_stream.specs.Showing.{shows};
 
 use crate::handed::{held_in, index_of};
-use bsp_records::{PublishDiagnosticsParams, write_publish_diagnostics_params};
+use crate::outgoing::Outgoing;
 use ob_text::{Diagnostic, Held, NoMemory, Severity, Snapshot, Text};
 use oberon_check::diagnose;
-use rpc_peer::Message;
-use session_law::Place;
+use session_law::BuildDocument;
 use std::alloc::Global;
 use std::collections::VecDeque;
-use task_stream::Shown;
+use std::sync::Arc;
+use task_stream::{Piece, Shown};
 
 /// What is written of a build, and whether the clean build has an error.
 #[derive(Drop)]
 pub struct Published {
-    pub messages: VecDeque<Message>,
+    pub messages: VecDeque<Outgoing>,
     pub failed: bool,
 }
 
@@ -37,48 +34,62 @@ pub struct Published {
 pub fn publish_all(
     alloc: Global,
     shown: &mut Shown,
-    places: &[Place],
+    documents: &[BuildDocument],
     origin: &Option<Text>,
     snapshot: &Snapshot,
 ) -> Result<Published, NoMemory>
-    requires plain { All HasPlainAddress places.now }
-    requires distinct { AllPairs ◌≢◌ (map (λ place. place.address) places.now) }
+    requires plain { All HasPlainAddress documents.now }
+    requires distinct { AllPairs ◌≢◌ (map (λ document. document.address) documents.now) }
     requires origin { IfSome origin.now (IsTextWithin origin_limit) }
     requires texts { All (λ entry. IsReadable entry.1) snapshot.now.entries }
-    ensures published { IfOk result (λ p. IsPublished (shows shown.old) (shows shown.new) places.now
-        origin.now snapshot.now.entries (map said p.messages.items) p.failed) }
+    ensures published { IfOk result (λ p. IsPublished (shows shown.old) (shows shown.new) documents.now
+        origin.now snapshot.now.entries (map outgoing_said p.messages.items) p.failed) }
 {
     let entries = snapshot.entries.as_slice();
     let index = index_of(alloc, entries)?;
     let mut messages = VecDeque::new(alloc);
     let mut failed = false;
-    for place in places {
-        let held = held_in(entries, &index, &place.path);
-        let has_error = publish_one(alloc, shown, place, origin, held, &mut messages)?;
+    let own = shared(alloc, origin)?;
+    for document in documents {
+        let held = held_in(entries, &index, &document.path);
+        let has_error = publish_one(alloc, shown, document, &own, held, &mut messages)?;
         failed = failed || has_error;
     }
     Ok(Published { messages, failed })
+}
+
+/// An `originId` that what is published shares.
+fn shared(alloc: Global, origin: &Option<Text>) -> Result<Arc<Option<Text>>, NoMemory>
+    ensures { IfOk result (λ shared. shared.value ≡ origin.now) }
+{
+    let own = match origin {
+        Some(text) => Some(text.copy(alloc)?),
+        None => None,
+    };
+    Ok(Arc::new(alloc, own)?)
 }
 
 /// Publishes the diagnostics of one document, by what was handed out for it, and tells whether one is an error.
 fn publish_one(
     alloc: Global,
     shown: &mut Shown,
-    place: &Place,
-    origin: &Option<Text>,
+    document: &BuildDocument,
+    origin: &Arc<Option<Text>>,
     held: Option<&Held>,
-    messages: &mut VecDeque<Message>,
+    messages: &mut VecDeque<Outgoing>,
 ) -> Result<bool, NoMemory>
-    requires plain { HasPlainAddress place.now }
-    requires origin { IfSome origin.now (IsTextWithin origin_limit) }
+    requires plain { HasPlainAddress document.now }
+    requires origin { IfSome origin.now.value (IsTextWithin origin_limit) }
     requires readable { IfSome held (λ held. IsReadable held.now) }
-    ensures { IfOk result (IsPublishedOne (shows shown.old) (shows shown.new) place.now origin.now
-        (held_or_absent held.entry) (map said messages.old.items) (map said messages.new.items)) }
+    ensures { IfOk result (IsPublishedOne (shows shown.old) (shows shown.new) document.now origin.now.value
+        (held_or_absent held.entry) (map outgoing_said messages.old.items)
+        (map outgoing_said messages.new.items)) }
 {
     let list = diagnose_held(alloc, held)?;
-    let publications = shown.publish(&place.address, origin, list.as_slice())?;
-    say_all(alloc, publications.as_slice(), messages)?;
-    Ok(has_error(list.as_slice()))
+    let failed = has_error(list.as_slice());
+    let pieces = shown.publish(&document.address, origin, list)?;
+    say_all(pieces, messages)?;
+    Ok(failed)
 }
 
 /// The diagnostics of a document. Where nothing was handed out for it, it is absent.
@@ -101,36 +112,13 @@ fn has_error(list: &[Diagnostic]) -> bool
         .any(|diagnostic| diagnostic.code.severity() == Severity::Error)
 }
 
-/// Puts the messages of some publications behind the others.
-fn say_all(
-    alloc: Global,
-    publications: &[PublishDiagnosticsParams],
-    messages: &mut VecDeque<Message>,
-) -> Result<(), NoMemory>
-    requires texts { All HasPublishTexts publications.now }
-    requires short { All IsShortPublication publications.now }
-    ensures said { OnOk result (map said messages.new.items
-        ≡ map said messages.old.items ++ map publication_said publications.now) }
-    ensures framed { OnOk result (All IsFramed (map publication_said publications.now)) }
+/// Puts some publications behind the others.
+fn say_all(pieces: Vec<Piece>, messages: &mut VecDeque<Outgoing>) -> Result<(), NoMemory>
+    ensures { OnOk result (map outgoing_said messages.new.items
+        ≡ map outgoing_said messages.old.items ++ map publication_said pieces.items) }
 {
-    for publication in publications {
-        messages.push_back(say(alloc, publication)?)?;
+    for piece in pieces {
+        messages.push_back(Outgoing::Publication(piece))?;
     }
     Ok(())
-}
-
-/// A publication as a message.
-#[tactic(auto, using(crate::proofs::Publications::framed_publication))]
-fn say(alloc: Global, publication: &PublishDiagnosticsParams) -> Result<Message, NoMemory>
-    requires texts { HasPublishTexts publication.now }
-    requires short { IsShortPublication publication.now }
-    ensures said { IfOk result (λ message. said message ≡ publication_said publication.now) }
-    ensures framed { OnOk result (IsFramed (publication_said publication.now)) }
-{
-    let params = write_publish_diagnostics_params(alloc, publication)?;
-    let method = Text::new(alloc, b"build/publishDiagnostics")?;
-    Ok(Message::Notification {
-        method,
-        params: Some(params),
-    })
 }

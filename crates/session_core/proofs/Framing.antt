@@ -22,7 +22,7 @@ use Rattle.json_shape.specs.Shapes.{IsTextWithin}
 use Rattle.bsp_records.specs.ShortAnswers.{answer_limit}
 use Rattle.bsp_records.proofs.ShortLaws.{length_member, text_short}
 use Rattle.bsp_records.specs.Limits.{origin_limit}
-use Rattle.session_law.specs.Builds.{build_said, status_by}
+use Rattle.session_law.specs.Builds.{build_said, build_status}
 use Rattle.session_law.specs.IsFramed.{IsFramed}
 use Rattle.session_law.specs.Methods.{initialize_result, null_message, kind_text, name_behind}
 use Rattle.rpc_peer.specs.Meaning.{parse_error}
@@ -135,7 +135,7 @@ framed_closing id h = record { of_server = tt; texts = id_text id h; exact = rw 
 -- ---- the response to a compile
 
 abbrev compiled : Option (List ℕ) → Bool → Data
-compiled origin failed = compile_result_data (record { origin_id = origin; status_code = status_by failed })
+compiled origin failed = compile_result_data (record { origin_id = origin; status_code = build_status failed })
 
 compiled_exact : (origin : Option (List ℕ)) (failed : Bool) → has_float (compiled origin failed) ≡ false
 unfolding serde_json_on_literals
@@ -148,21 +148,21 @@ status_key : length (quoted (codes "statusCode")) ≡ 12
 unfolding serde_json_on_literals
 status_key = refl
 
-status_short : (failed : Bool) → length (compact_text (status_data (status_by failed))) ≤ 20
+status_short : (failed : Bool) → length (compact_text (status_data (build_status failed))) ≤ 20
 status_short true = number_short (pos 2) (omega (arith, ints))
 status_short false = number_short (pos 1) (omega (arith, ints))
 
-behind_origin : (failed : Bool) → length (members_text true (member (codes "statusCode") (status_data (status_by failed)) no_members)) ≤ 40
+behind_origin : (failed : Bool) → length (members_text true (member (codes "statusCode") (status_data (build_status failed)) no_members)) ≤ 40
 behind_origin failed =
-    let whole = length_members (codes "statusCode") (status_data (status_by failed)) no_members in
+    let whole = length_members (codes "statusCode") (status_data (build_status failed)) no_members in
     let key = status_key in
     let number = status_short failed in
     let last : length (members_text true no_members) ≤ 1 = lit≤ tt in
     omega arith
 
-without_origin : (failed : Bool) → length (compact_text (object (member (codes "statusCode") (status_data (status_by failed)) no_members))) ≤ 7000
+without_origin : (failed : Bool) → length (compact_text (object (member (codes "statusCode") (status_data (build_status failed)) no_members))) ≤ 7000
 without_origin failed =
-    let whole = length_object (codes "statusCode") (status_data (status_by failed)) no_members in
+    let whole = length_object (codes "statusCode") (status_data (build_status failed)) no_members in
     let key = status_key in
     let number = status_short failed in
     let last : length (members_text true no_members) ≤ 1 = lit≤ tt in
@@ -173,9 +173,9 @@ unfolding serde_json_on_literals
 origin_key = refl
 
 with_origin : (text : List ℕ) (failed : Bool) → length text ≤ origin_limit
-    → length (compact_text (object (member (codes "originId") (string text) (member (codes "statusCode") (status_data (status_by failed)) no_members)))) ≤ 7000
+    → length (compact_text (object (member (codes "originId") (string text) (member (codes "statusCode") (status_data (build_status failed)) no_members)))) ≤ 7000
 with_origin text failed short =
-    let whole = length_object (codes "originId") (string text) (member (codes "statusCode") (status_data (status_by failed)) no_members) in
+    let whole = length_object (codes "originId") (string text) (member (codes "statusCode") (status_data (build_status failed)) no_members) in
     let quotes = text_short text in
     let key = origin_key in
     let last = behind_origin failed in

@@ -225,7 +225,7 @@ keeps_building id plan v base status past of o =
             subst (AreOpen (after past).requests base.force) (ap (owed id) of.is ∙ waits)
             (subst (λ force. AreOpen (after past).requests force (owed id v)) o.force_is o.requests_are);
         nulls_are = o.nulls_are;
-        need_is = subst (λ standing. WantsOf standing (paths_in plan)) waits (record { places = plan.places; of_build = of.places; are = refl });
-        plan_is = subst (λ f. AreIn f plan) (sym of.in_force) of.places;
+        need_is = subst (λ standing. WantsOf standing (paths_in plan)) waits (record { documents = plan.documents; of_build = of.documents; are = refl });
+        plan_is = subst (λ f. AreIn f plan) (sym of.in_force) of.documents;
       };
     }

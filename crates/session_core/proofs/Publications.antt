@@ -8,10 +8,11 @@ use Rattle.bsp_records.specs.Results.{compile_result_data}
 use Rattle.rpc_peer.specs.declared.message.Id.{Id}
 use Rattle.rpc_peer.specs.Said.{Said, request, notification, result, failure}
 use Rattle.session_build.specs.Publishing.{IsNotice}
-use Rattle.session_law.specs.Builds.{Finding, CleanBuild, PublishesSome, Shows, build_answer, build_said, has_error, is_publication, shown_by, status_by, table_with}
+use Rattle.session_law.specs.Builds.{Finding, CleanBuild, PublishesSome, Shows, build_answer, build_said, has_error, is_publication, shown_by, build_status, table_behind}
 use Rattle.session_law.specs.IsFramed.{IsFramed}
 use Rattle.session_law.specs.Methods.{Build, built}
-use Rattle.session_law.specs.Order.{Entries, Event, write}
+use Rattle.ob_text.specs.Held.{Entries}
+use Rattle.session_law.specs.Order.{Event, write}
 use Rattle.session_law.specs.Past.{after}
 use Rattle.session_core.specs.State.{Base, owed}
 use Rattle.session_core.specs.Standing.{Keeps, onto}
@@ -33,7 +34,7 @@ module _ (id : Id) (build : Build) (entries : Entries) (base : Base) (status : O
     (findings : List Finding) (clean : CleanBuild build entries findings) (published : List Said) (publishes : PublishesSome base.table build.origin findings published) where
   -- these messages of the build are written
   record Going (past : List Event) (done : List Said) : Type 0 where
-    owes : Owes (record base { table = table_with done base.table }) status (owed id (built build entries)) [] past
+    owes : Owes (record base { table = table_behind done base.table }) status (owed id (built build entries)) [] past
     since : (after past).notices ≡ done
     start : (after past).table_at_hand ≡ base.table
     notices : All IsNotice done
@@ -90,22 +91,22 @@ module _ (id : Id) (build : Build) (entries : Entries) (base : Base) (status : O
       (whole ∙ sym (append_assoc done (m ∷ []) rest))
 
   -- the build is answered once its lists are published
-  answers_it : (new : Table) (past : List Event) → Going past published → new ≡ table_with published base.table → All (Shows new) findings → IsFramed answer
+  answers_it : (new : Table) (past : List Event) → Going past published → new ≡ table_behind published base.table → All (Shows new) findings → IsFramed answer
       → Keeps false (idle (record base { table = new }) status) (write answer ∷ past)
   unfolding build_said
   answers_it new past g kept shows framed =
       let o = g.owes in
-      let value = compile_result_data (record { origin_id = build.origin; status_code = status_by (list_any has_error findings) }) in
+      let value = compile_result_data (record { origin_id = build.origin; status_code = build_status (list_any has_error findings) }) in
       let shown = subst (λ t. All (Shows t) findings) (kept ∙ sym o.table_is) shows in
       let allowed = allowed_build (after past) id build entries o.requests_are value (record { findings = findings; clean = clean; value_is = refl })
       (record { findings = findings; clean = clean; shows = shown }) framed in
-      let given = by_result id (built build entries) value (record base { table = table_with published base.table }) status past refl o allowed in
+      let given = by_result id (built build entries) value (record base { table = table_behind published base.table }) status past refl o allowed in
       subst (λ t. Keeps false (idle (record base { table = t }) status) (write (result (Some id) value) ∷ past)) (sym kept)
-      (subst (λ closed. Keeps false (idle (record base { table = table_with published base.table; closed = closed }) status) (write (result (Some id) value) ∷ past)) (same_or base.closed) given)
+      (subst (λ closed. Keeps false (idle (record base { table = table_behind published base.table; closed = closed }) status) (write (result (Some id) value) ∷ past)) (same_or base.closed) given)
 
   -- a build whose documents were handed out publishes its lists and is answered
   pub gives_build : (new : Table) (past : List Event) → (after past).notices ≡ [] → (after past).table_at_hand ≡ base.table → Owes base status (owed id (built build entries)) [] past
-      → All IsFramed published → All IsNotice published → new ≡ table_with published base.table → All (Shows new) findings → IsFramed answer
+      → All IsFramed published → All IsNotice published → new ≡ table_behind published base.table → All (Shows new) findings → IsFramed answer
       → Keeps false (idle (record base { table = new }) status) (onto (published ++ answer ∷ []) past)
   gives_build new past since start o framed notices kept shows answer_framed =
       let begin : Going past [] = record { owes = o; since = since; start = start; notices = All-nil IsNotice } in

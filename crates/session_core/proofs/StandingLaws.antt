@@ -3,9 +3,10 @@ use Rattle.std.proofs.Common.{◌≡◌, ◌++◌, ◌≤◌, ℤ, List, [], ◌
 use Rattle.std.specs.Prelude.{codes}
 use Rattle.std.specs.List.{All}
 use Rattle.std.proofs.lemmas.List.Elements.{All-nil}
-use Rattle.rpc_peer.specs.declared.message.Message.{Message}
+use Rattle.session_build.specs.declared.outgoing.Outgoing.{Outgoing}
 use Rattle.rpc_peer.specs.Meaning.{meaning}
-use Rattle.rpc_peer.specs.Said.{Said, said, request, notification, result, failure}
+use Rattle.rpc_peer.specs.Said.{Said, request, notification, result, failure}
+use Rattle.session_build.specs.Outgoing.{outgoing_said}
 use Rattle.session_law.specs.AnswersAll.{IsSettled}
 use Rattle.session_law.specs.AnswersAtOnce.{HeadIsUp, IsCaughtUp, Waits}
 use Rattle.session_law.specs.Lawful.{Lawful, EachAllowed}
@@ -26,7 +27,7 @@ before (m ∷ messages) order each = (before messages (write m ∷ order) each).
 
 -- an order that a core stands for is lawful
 pub stood_lawful : (core : Core) (order : List Event) → StandsFor core order → Lawful order
-stood_lawful core order stands = record { each = before (map said core.out.items) order stands.lawful.each }
+stood_lawful core order stands = record { each = before (map outgoing_said core.out.items) order stands.lawful.each }
 
 pub onto-push : (messages : List Said) (m : Said) (order : List Event) → onto (messages ++ m ∷ []) order ≡ write m ∷ onto messages order
 onto-push [] m order = refl
@@ -59,7 +60,7 @@ status_after-onto (m ∷ messages) order = status_after-onto messages (write m �
 -- what a core knows of its order that has nothing left to write and found memory
 pub known : (core : Core) (order : List Event) → IsQuiet core → IsAlive core → StandsFor core order → Knows (state_of core) order
 known core order quiet alive stands =
-    let keeps = subst (λ (items : List Message). Keeps core.dead (state_of core) (onto (map said items) order)) quiet stands in
+    let keeps = subst (λ (items : List Outgoing). Keeps core.dead (state_of core) (onto (map outgoing_said items) order)) quiet stands in
     keeps.knows alive
 
 -- nothing is owed in an order of a core for which nothing waits

@@ -2,17 +2,19 @@
 use Rattle.std.proofs.Common.{◌≡◌, ◌++◌, ℕ, ℤ, suc, List, [], ◌∷◌, map, Bool, true, false, Option, Some, None, Result, Ok, Err, OnOk, OnErr, is_err, IfSome, option_to_list, refl, ap, sym, ◌∙◌, subst}
 use Rattle.ob_text.specs.declared.held.Snapshot.{Snapshot}
 use Rattle.rpc_peer.specs.declared.message.Id.{Id}
-use Rattle.rpc_peer.specs.declared.message.Message.{Message}
+use Rattle.session_build.specs.declared.outgoing.Outgoing.{Outgoing}
 use Rattle.rpc_peer.specs.Meaning.{meaning, parse_error}
-use Rattle.rpc_peer.specs.Said.{Said, said, request, notification, result, failure, IsId}
+use Rattle.rpc_peer.specs.Said.{Said, request, notification, result, failure, IsId}
+use Rattle.session_build.specs.Outgoing.{outgoing_said}
 use Rattle.session_law.specs.declared.InputEnd.TheVariants.{Border, Damaged, Failed}
 use Rattle.session_law.specs.declared.InputEnd.{InputEnd}
-use Rattle.session_law.specs.Builds.{ArePlaces, CleanBuild, build_answer, build_said, table_with}
+use Rattle.session_law.specs.Builds.{AreDocuments, CleanBuild, build_answer, build_said, table_behind}
 use Rattle.session_law.specs.AnswersAtOnce.{IsCaughtUp}
 use Rattle.session_law.specs.IsFramed.{IsFramed}
 use Rattle.session_law.specs.Lawful.{Lawful, EachAllowed}
 use Rattle.session_law.specs.Methods.{Verdict, asking, opening, queued, building, built, answering, closing, refusal, unreadable, verdict, due_in}
-use Rattle.session_law.specs.Order.{Entries, Event, take, ends, hand, write}
+use Rattle.ob_text.specs.Held.{Entries}
+use Rattle.session_law.specs.Order.{Event, take, ends, hand, write}
 use Rattle.session_law.specs.Past.{after, exit_status, nulls_for, nulls_for_end, end_status}
 use Rattle.session_law.specs.Requests.{Asked, WantedBy, Wants, all_marked, first_up, handed_by, handed_over, opened_by}
 use Rattle.session_core.specs.Acting.{Deed, answers_by, asks_at, plans_by, Does, DeedFits, answer_unread, answered, paths_in, Answers, AnswersAs, Builds, BuildsOn, Steps, Acts, ActsOnHand, Ends, exited_by}
@@ -91,9 +93,9 @@ module _ (base : Base) (order : List Event) (lawful : Lawful order) (knows : Res
 
 -- a core that queued these messages keeps what it says of the order with them
 steps : (old new : Core) (state : State) (messages : List Said) (order : List Event) → Steps old new state messages → old.out.items ≡ [] → old.dead ≡ false
-    → Keeps false state (onto messages order) → Keeps false (state_of new) (onto (map said new.out.items) order)
+    → Keeps false state (onto messages order) → Keeps false (state_of new) (onto (map outgoing_said new.out.items) order)
 steps old new state messages order s quiet alive keeps =
-    let queue : map said new.out.items ≡ messages = s.queued ∙ ap (λ ms. ms ++ messages) (ap (map said) quiet) in
+    let queue : map outgoing_said new.out.items ≡ messages = s.queued ∙ ap (λ ms. ms ++ messages) (ap (map outgoing_said) quiet) in
     rw (s.state_is, queue) keeps
 
 -- ---- the request that waits for the tree
@@ -154,7 +156,7 @@ running core order alive none free keeps = subst (λ state. Knows state order) (
 
 module _ (old new : Core) (order : List Event) (quiet : old.out.items ≡ []) (alive : old.dead ≡ false) where
   abbrev Next : Event → Type 0
-  Next event = Keeps false (state_of new) (onto (map said new.out.items) (event ∷ order))
+  Next event = Keeps false (state_of new) (onto (map outgoing_said new.out.items) (event ∷ order))
 
   module _ (none : old.status ≡ None) (free : old.awaiting ≡ None) (keeps : Keeps old.dead (state_of old) order) where
     abbrev base : Base
@@ -223,7 +225,7 @@ module _ (old new : Core) (order : List Event) (quiet : old.out.items ≡ []) (a
         record { each = (record { answered = caught (base_of old) order keeps.lawful rests; goes_on = rests.status_is }, keeps.lawful.each) }
 
   -- a core that found no memory queued nothing, and its order is lawful still
-  lost : (event : Event) → new.out.items ≡ old.out.items → Lawful (event ∷ order) → Keeps true (state_of new) (onto (map said new.out.items) (event ∷ order))
+  lost : (event : Event) → new.out.items ≡ old.out.items → Lawful (event ∷ order) → Keeps true (state_of new) (onto (map outgoing_said new.out.items) (event ∷ order))
   lost event same lawful = rw (same, quiet) (record { lawful = lawful; knows = λ h. cc })
 
   -- ---- what the tree handed out
@@ -279,13 +281,13 @@ module _ (old new : Core) (order : List Event) (quiet : old.out.items ≡ []) (a
 
     -- a build is published and answered
     built_on : (id : Id) (space : Space) (plan : Plan) (entries : Entries) → handed_of got ≡ Some entries → asked_by old.workspace old.awaiting ≡ owed id (building (build_in space plan))
-        → ArePlaces (build_in space plan) plan.places → Builds old new id plan entries → Next (hand (handed_of got))
-    built_on id space plan entries is waits places acts =
+        → AreDocuments (build_in space plan) plan.documents → Builds old new id plan entries → Next (hand (handed_of got))
+    built_on id space plan entries is waits documents acts =
         let p = acts.published in
         let build = build_in space plan in
-        let clean : CleanBuild build entries p.findings = record { places = subst (ArePlaces build) (sym p.of_places) places; found = p.found } in
+        let clean : CleanBuild build entries p.findings = record { documents = subst (AreDocuments build) (sym p.of_documents) documents; found = p.found } in
         let owes = subst (λ h. Owes (base_of old) old.status (owed id (handed_over h (building build))) [] (hand (handed_of got) ∷ order)) is (owes_on id (building build) tt waits) in
-        let kept : shows new.shown ≡ table_with acts.messages (shows old.shown) = λ i document target. p.kept document target i in
+        let kept : shows new.shown ≡ table_behind acts.messages (shows old.shown) = λ i document target. p.kept document target i in
         let answer_is : build_answer id build p.findings ≡ build_said id plan.origin acts.failed = ap (build_said id plan.origin) (sym p.failed_is) in
         let framed = subst IsFramed (sym answer_is) (framed_build id plan.origin acts.failed (named_on id (building build) waits) acts.short) in
         let given = gives_build id build entries (base_of old) old.status p.findings clean acts.messages p.publishes (shows new.shown) (hand (handed_of got) ∷ order) refl
@@ -329,12 +331,12 @@ refuses_unread old new id free acts =
 
 -- ---- either way
 
-unqueued : (core : Core) (order : List Event) → core.out.items ≡ [] → Keeps core.dead (state_of core) (onto (map said core.out.items) order) → Keeps core.dead (state_of core) order
-unqueued core order quiet keeps = subst (λ (items : List Message). Keeps core.dead (state_of core) (onto (map said items) order)) quiet keeps
+unqueued : (core : Core) (order : List Event) → core.out.items ≡ [] → Keeps core.dead (state_of core) (onto (map outgoing_said core.out.items) order) → Keeps core.dead (state_of core) order
+unqueued core order quiet keeps = subst (λ (items : List Outgoing). Keeps core.dead (state_of core) (onto (map outgoing_said items) order)) quiet keeps
 
 pub message_stands : {U E : Type 0} (old new : Core) (body : List ℕ) (outcome : Result U E) (dead : Bool) (order : List Event) → dead ≡ is_err outcome
     → OnOk outcome (Acts old new (meaning body)) → OnErr outcome (new.out.items ≡ old.out.items) → old.out.items ≡ [] → old.status ≡ None → old.awaiting ≡ None → old.dead ≡ false
-    → Keeps old.dead (state_of old) (onto (map said old.out.items) order) → Keeps dead (state_of new) (onto (map said new.out.items) (take body ∷ order))
+    → Keeps old.dead (state_of old) (onto (map outgoing_said old.out.items) order) → Keeps dead (state_of new) (onto (map outgoing_said new.out.items) (take body ∷ order))
 message_stands old new body (Ok u) dead order is acts same quiet none free alive keeps =
     rw is (acted old new order quiet alive none free (unqueued old order quiet keeps) body (meaning body) refl acts)
 message_stands old new body (Err e) dead order is acts same quiet none free alive keeps =
@@ -342,7 +344,7 @@ message_stands old new body (Err e) dead order is acts same quiet none free aliv
 
 pub end_stands : {U E : Type 0} (old new : Core) (how : InputEnd) (outcome : Result U E) (dead : Bool) (order : List Event) → dead ≡ is_err outcome
     → OnOk outcome (Ends old new how) → OnErr outcome (new.out.items ≡ old.out.items) → old.out.items ≡ [] → old.status ≡ None → old.awaiting ≡ None → old.dead ≡ false
-    → Keeps old.dead (state_of old) (onto (map said old.out.items) order) → Keeps dead (state_of new) (onto (map said new.out.items) (ends how ∷ order))
+    → Keeps old.dead (state_of old) (onto (map outgoing_said old.out.items) order) → Keeps dead (state_of new) (onto (map outgoing_said new.out.items) (ends how ∷ order))
 end_stands old new how (Ok u) dead order is acts same quiet none free alive keeps =
     rw is (acted_on_end old new order quiet alive none free (unqueued old order quiet keeps) how acts)
 end_stands old new how (Err e) dead order is acts same quiet none free alive keeps =
@@ -350,7 +352,7 @@ end_stands old new how (Err e) dead order is acts same quiet none free alive kee
 
 pub snapshot_stands : {U E : Type 0} (old new : Core) (got : Option Snapshot) (outcome : Result U E) (dead : Bool) (order : List Event) → dead ≡ is_err outcome
     → OnOk outcome (ActsOnHand old new old.awaiting got) → OnErr outcome (new.out.items ≡ old.out.items) → old.out.items ≡ [] → old.need ≡ None → Suits old got → old.dead ≡ false
-    → Keeps old.dead (state_of old) (onto (map said old.out.items) order) → Keeps dead (state_of new) (onto (map said new.out.items) (hand (handed_of got) ∷ order))
+    → Keeps old.dead (state_of old) (onto (map outgoing_said old.out.items) order) → Keeps dead (state_of new) (onto (map outgoing_said new.out.items) (hand (handed_of got) ∷ order))
 snapshot_stands old new got (Ok u) dead order is acts same quiet needless suits alive keeps =
     rw is (acted_on_hand old new order quiet alive got needless suits (unqueued old order quiet keeps) old.awaiting refl acts)
 snapshot_stands old new got (Err e) dead order is acts same quiet needless suits alive keeps =
@@ -359,9 +361,9 @@ snapshot_stands old new got (Err e) dead order is acts same quiet needless suits
 -- ---- what is queued
 
 -- the message that leaves the queue is one that the server may write
-pub next_framed : (next : Option Message) (old new : List Message) (order : List Event) → old ≡ option_to_list next ++ new → Lawful (onto (map said old) order)
-    → IfSome next (λ m. IsFramed (said m))
+pub next_framed : (next : Option Outgoing) (old new : List Outgoing) (order : List Event) → old ≡ option_to_list next ++ new → Lawful (onto (map outgoing_said old) order)
+    → IfSome next (λ m. IsFramed (outgoing_said m))
 next_framed None old new order is lawful = tt
 next_framed (Some m) old new order is lawful =
-    let each : EachAllowed (onto (map said (m ∷ new)) order) = rw is at lawful.each in
-    (before (map said new) (write (said m) ∷ order) each).0.framed
+    let each : EachAllowed (onto (map outgoing_said (m ∷ new)) order) = rw is at lawful.each in
+    (before (map outgoing_said new) (write (outgoing_said m) ∷ order) each).0.framed

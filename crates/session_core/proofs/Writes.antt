@@ -13,7 +13,7 @@ use Rattle.session_law.specs.If.{If}
 use Rattle.session_law.specs.IsFramed.{IsFramed}
 use Rattle.session_law.specs.Lawful.{WriteAllowed}
 use Rattle.session_law.specs.Methods.{Build, Verdict, asking, opening, queued, building, built, answering, closing, refusal, Call, to_build, Found, all_found, unknown_at, found_build, found_from, taken_up, due_in}
-use Rattle.session_law.specs.Order.{Entries}
+use Rattle.ob_text.specs.Held.{Entries}
 use Rattle.session_law.specs.Past.{Now}
 use Rattle.session_law.specs.PublishesInBuildsOnly.{PublishesFor}
 use Rattle.session_law.specs.RefusesExactly.{IsGranted, IsRefused}

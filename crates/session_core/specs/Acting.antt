@@ -6,14 +6,15 @@ use Rattle.json_shape.specs.Shapes.{IsTextWithin}
 use Rattle.bsp_records.specs.Limits.{origin_limit}
 use Rattle.ob_text.specs.declared.held.Snapshot.{Snapshot}
 use Rattle.rpc_peer.specs.declared.message.Id.{Id}
-use Rattle.rpc_peer.specs.Said.{Said, said, request, notification, result, failure, IsId}
+use Rattle.rpc_peer.specs.Said.{Said, request, notification, result, failure, IsId}
 use Rattle.rpc_peer.specs.Meaning.{parse_error}
 use Rattle.session_build.specs.Publishing.{IsPublished}
+use Rattle.session_build.specs.Outgoing.{outgoing_said}
 use Rattle.session_law.specs.Builds.{build_said}
 use Rattle.session_law.specs.IsFramed.{IsFramed}
 use Rattle.session_law.specs.Methods.{Verdict, asking, unreadable, verdict, due_in, is_named, null_message}
 use Rattle.ob_text.specs.Once.{each_once}
-use Rattle.session_law.specs.Order.{Entries}
+use Rattle.ob_text.specs.Held.{Entries}
 use Rattle.session_law.specs.Requests.{handed_over}
 use Rattle.session_law.specs.declared.InputEnd.{InputEnd}
 use Rattle.session_law.specs.declared.InputEnd.TheVariants.{Border, Damaged, Failed}
@@ -35,7 +36,7 @@ answer_unread code = failure None code (null_message code)
 
 -- a core goes from one state to the next, and queues these messages
 pub record Steps (old new : Core) (state : State) (messages : List Said) : Type 0 where
-  pub queued : map said new.out.items ≡ map said old.out.items ++ messages
+  pub queued : map outgoing_said new.out.items ≡ map outgoing_said old.out.items ++ messages
   pub state_is : state_of new ≡ state
   pub alive : new.dead ≡ old.dead
 
@@ -58,7 +59,7 @@ abbrev pub Asks : Core → Core → Id → List ℕ → Type 0
 Asks old new id root = Steps old new (record (state_of old) { awaiting = Some (awaits.Opening id root); need = Some workspace_need }) []
 
 abbrev pub paths_in : Plan → List (List ℕ)
-paths_in plan = each_once bytes_eq (map (λ place. place.path) plan.places)
+paths_in plan = each_once bytes_eq (map (λ document. document.path) plan.documents)
 
 -- the core keeps a build until it has its documents
 abbrev pub Plans : Core → Core → Id → Plan → Type 0
@@ -125,7 +126,7 @@ pub record Builds (old new : Core) (id : Id) (plan : Plan) (entries : Entries) :
   pub short : IfSome plan.origin (IsTextWithin origin_limit)
   pub messages : List Said
   pub failed : Bool
-  pub published : IsPublished (shows old.shown) (shows new.shown) plan.places plan.origin entries messages failed
+  pub published : IsPublished (shows old.shown) (shows new.shown) plan.documents plan.origin entries messages failed
   pub steps : Steps old new (record (state_of old) { base = record (base_of old) { table = shows new.shown }; awaiting = None }) (messages ++ build_said id plan.origin failed ∷ [])
 
 -- the core acts on the answer of the tree, for the build that waits for it

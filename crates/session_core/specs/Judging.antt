@@ -10,7 +10,7 @@ use Rattle.bsp_records.specs.ShortAnswers.{answer_limit}
 use Rattle.serde_json.specs.Data.{Data, null}
 use Rattle.serde_json.specs.View.{view}
 use Rattle.serde_json.specs.Written.{compact_text, has_float}
-use Rattle.session_law.specs.Builds.{ArePlaces}
+use Rattle.session_law.specs.Builds.{AreDocuments}
 use Rattle.session_law.specs.Methods.{Verdict, asking, opening, queued, building, answering, closing, refusal, Call, to_build, Found, all_found, unknown_at, refused_message, initialize_result, method_not_found, sources_unreadable, not_initialized, invalid_params, workspace_refused}
 use Rattle.session_law.specs.Questions.{IsAnswer}
 use Rattle.session_law.specs.RefusesExactly.{IsNoWorkspace}
@@ -55,21 +55,21 @@ Fits (refusal code text) (answers.Refused reason) = (reason_code reason ≡ code
 Fits v answer = ⊥
 
 -- what a request of the queue asks for, as the law has it
-abbrev pub call_of : Queued → Call
-call_of (Build params) = to_build params.targets params.origin_id
+abbrev pub queued_call : Queued → Call
+queued_call (Build params) = to_build params.targets params.origin_id
 
 -- What a request is owed at its take. One of the queue finds a workspace in force.
 abbrev pub Judges : Option Space → Verdict → Owed → Type 0
 Judges force v (owing.Answer answer) = Fits v answer
 Judges force v (owing.Opening root) = v ≡ asking root
-Judges force v (owing.Queued call) = (v ≡ queued (call_of call)) × IsSome force
+Judges force v (owing.Queued call) = (v ≡ queued (queued_call call)) × IsSome force
 
 -- it is a build of the workspace in force, and these are its documents
 pub record IsPlanOf (force : Option Space) (v : Verdict) (plan : Plan) : Type 0 where
   pub space : Space
   pub in_force : force ≡ Some space
   pub is : v ≡ building (build_in space plan)
-  pub places : ArePlaces (build_in space plan) plan.places
+  pub documents : AreDocuments (build_in space plan) plan.documents
 
 -- what a request of the queue is owed as it is taken up
 abbrev pub TakesUp : Option Space → Verdict → TakenUp → Type 0
@@ -98,13 +98,13 @@ IsSaid (answers.Refused (reasons.InvalidParams path)) = IsPlain said_limit path
 IsSaid (answers.Refused (reasons.WorkspaceRefused fault)) = IsGraphicWithin said_limit fault.name
 IsSaid answer = Unit {0}
 
-abbrev pub HasTexts : Queued → Type 0
-HasTexts (Build params) = HasCompileTexts params
+abbrev pub HasQueuedTexts : Queued → Type 0
+HasQueuedTexts (Build params) = HasCompileTexts params
 
 abbrev pub IsSaidOwed : Owed → Type 0
 IsSaidOwed (owing.Answer answer) = IsSaid answer
 IsSaidOwed (owing.Opening root) = Unit {0}
-IsSaidOwed (owing.Queued call) = HasTexts call
+IsSaidOwed (owing.Queued call) = HasQueuedTexts call
 
 abbrev pub IsSaidUp : TakenUp → Type 0
 IsSaidUp (ups.Building plan) = Unit {0}

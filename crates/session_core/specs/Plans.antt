@@ -4,25 +4,25 @@ use Rattle.std.specs.List.{All, AllPairs}
 use Rattle.std.specs.Option.{IfSome}
 use Rattle.json_shape.specs.Shapes.{IsTextWithin}
 use Rattle.bsp_records.specs.Limits.{origin_limit}
-use Rattle.session_build.specs.Placed.{HasPlainAddress, build_of}
+use Rattle.session_build.specs.Documents.{HasPlainAddress, build_of}
 use Rattle.session_core.specs.declared.planned.Planned.TheInside.{Inside}
 use Rattle.session_law.specs.Methods.{Build}
-use Rattle.session_law.specs.declared.Place.{Place}
+use Rattle.session_law.specs.declared.BuildDocument.{BuildDocument}
 use Rattle.target_graph.specs.Workspace.{Space}
 
 -- what contracts see of it
 pub record Plan : Type 0 where
   pub asked : List ℕ
   pub origin : Option (List ℕ)
-  pub places : List Place
+  pub documents : List BuildDocument
 
 abbrev pub plan_of : Inside → Plan
-plan_of planned = record { asked = planned.asked; origin = planned.origin; places = planned.places }
+plan_of planned = record { asked = planned.asked; origin = planned.origin; documents = planned.documents }
 
 -- its addresses and its `originId` are short, and no two documents have one address
 pub record IsSoundPlan (plan : Plan) : Type 0 where
-  pub plain : All HasPlainAddress plan.places
-  pub distinct : AllPairs ◌≢◌ (map (λ place. place.address) plan.places)
+  pub plain : All HasPlainAddress plan.documents
+  pub distinct : AllPairs ◌≢◌ (map (λ document. document.address) plan.documents)
   pub short : IfSome plan.origin (IsTextWithin origin_limit)
 
 -- the build that the law speaks of

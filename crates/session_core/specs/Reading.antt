@@ -2,8 +2,7 @@
 use Rattle.std.specs.Prelude.{Option}
 use Rattle.std.specs.List.{All}
 use Rattle.std.specs.Option.{IfSome}
-use Rattle.ob_text.specs.Held.{IsReadable}
-use Rattle.session_law.specs.Order.{Entries}
+use Rattle.ob_text.specs.Held.{Entries, IsReadable}
 
 -- each text that was handed out is a document
 abbrev pub AreReadable : Option Entries → Type 0

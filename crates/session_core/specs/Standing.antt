@@ -1,11 +1,12 @@
 -- Which orders a core stands for.
 use Rattle.std.specs.Prelude.{◌≡◌, ℕ, List, [], ◌∷◌, length, map, Bool, false, Option, None, Some, IfSome}
 use Rattle.ob_text.specs.declared.held.Snapshot.{Snapshot}
-use Rattle.rpc_peer.specs.Said.{Said, said, IsId}
+use Rattle.rpc_peer.specs.Said.{Said, IsId}
 use Rattle.rpc_peer.specs.declared.message.Id.{Id}
+use Rattle.session_build.specs.Outgoing.{outgoing_said}
 use Rattle.session_law.specs.Lawful.{Lawful, AreHeld}
 use Rattle.session_law.specs.Order.{Event, write}
-use Rattle.session_law.specs.Builds.{ArePlaces}
+use Rattle.session_law.specs.Builds.{AreDocuments}
 use Rattle.session_law.specs.Methods.{Verdict, due_in}
 use Rattle.session_law.specs.Past.{after}
 use Rattle.session_law.specs.Requests.{Asked, Wants}
@@ -47,7 +48,7 @@ NeedFits need force awaiting = IfSome need (λ n. WantsOf (asked_by force awaiti
 
 abbrev pub AreIn : Option Space → Plan → Type 0
 AreIn None plan = ⊥
-AreIn (Some space) plan = ArePlaces (build_in space plan) plan.places
+AreIn (Some space) plan = AreDocuments (build_in space plan) plan.documents
 
 -- a build that waits has its documents, by the workspace in force
 abbrev pub PlanFits : Option Space → Option Awaiting → Type 0
@@ -74,7 +75,7 @@ pub record Keeps (dead : Bool) (state : State) (order : List Event) : Type 0 whe
 -- The order that the core stands for holds the messages that were written. What the core keeps is
 -- true of the order behind those that are still to be written.
 abbrev pub StandsFor : Core → List Event → Type 0
-StandsFor core order = Keeps core.dead (state_of core) (onto (map said core.out.items) order)
+StandsFor core order = Keeps core.dead (state_of core) (onto (map outgoing_said core.out.items) order)
 
 -- nothing is left to write
 abbrev pub IsQuiet : Core → Type 0

@@ -4,7 +4,7 @@ use Rattle.bsp_records.specs.Table.{Table}
 use Rattle.ob_text.specs.declared.held.Snapshot.{Snapshot}
 use Rattle.rpc_peer.specs.declared.message.Id.{Id}
 use Rattle.session_law.specs.Methods.{Verdict, asking, building, workspace_path}
-use Rattle.session_law.specs.Order.{Entries}
+use Rattle.ob_text.specs.Held.{Entries}
 use Rattle.session_core.specs.Plans.{Plan, build_in}
 use Rattle.session_core.specs.declared.awaiting.Awaiting.{Awaiting}
 use Rattle.session_core.specs.declared.awaiting.Awaiting.TheVariants as awaits

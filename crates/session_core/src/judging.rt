@@ -8,7 +8,7 @@ ghost use Rattle.bsp_records.specs.Limits.{root_uri_limit};
 ghost use Rattle.bsp_records.specs.declared.requests.Method.TheVariants.{Initialize};
 ghost use Rattle.serde_json.specs.View.{view};
 ghost use Rattle.session_law.specs.Methods.{opening, verdict, verdict_for, is_initialize, served_in, read_in, first_asked, asked_of, rooted, sourced, found_from, found_build, target_path, taken_in};
-ghost use Rattle.session_core.specs.Judging.{Judges, Fits, IsFoundAs, IsSaid, IsSaidOwed, IsSaidUp, HasTexts, TakesUp, call_of};
+ghost use Rattle.session_core.specs.Judging.{Judges, Fits, IsFoundAs, IsSaid, IsSaidOwed, IsSaidUp, HasQueuedTexts, TakesUp, queued_call};
 ghost use Rattle.target_graph.specs.Address.{root_at};
 ghost use Rattle.target_graph.specs.Workspace.{named};
 
@@ -21,7 +21,7 @@ use itoa::Buffer;
 use ob_text::{Held, Items, NoMemory, Text};
 use serde_json::Value;
 use session_answers::{inverse_answer, sources_answer, targets_answer};
-use session_build::places_of;
+use session_build::documents_of;
 use std::alloc::Global;
 use target_graph::{Root, RootFault, Workspace, WorkspaceRefusal, root_of};
 
@@ -220,9 +220,9 @@ pub fn take_up(
     call: Queued,
     workspace: &Option<Workspace>,
 ) -> Result<TakenUp, NoMemory>
-    requires texts { HasTexts call }
+    requires texts { HasQueuedTexts call }
     requires begun { IsSome workspace.now }
-    ensures taken { IfOk result (TakesUp workspace.now (taken_in workspace.now (call_of call))) }
+    ensures taken { IfOk result (TakesUp workspace.now (taken_in workspace.now (queued_call call))) }
     ensures short { IfOk result IsSaidUp }
 {
     match workspace {
@@ -245,9 +245,9 @@ fn plan_build(
 {
     match find_targets(alloc, params.targets.as_slice(), workspace)? {
         Ok(asked) => {
-            let places = places_of(alloc, workspace, asked.as_slice())?;
+            let documents = documents_of(alloc, workspace, asked.as_slice())?;
             let asked = Items::from_vec(asked);
-            Ok(TakenUp::Building(Planned::new(asked, params.origin_id, places)))
+            Ok(TakenUp::Building(Planned::new(asked, params.origin_id, documents)))
         }
         Err(index) => Ok(TakenUp::Refused(unknown_target(alloc, index)?)),
     }

@@ -1,5 +1,5 @@
 use ob_text::{Items, Text};
-use session_law::Place;
+use session_law::BuildDocument;
 use std::marker::Model;
 
 /// A build before its documents are handed out: the targets asked for, by their index in the workspace file,
@@ -8,7 +8,7 @@ use std::marker::Model;
 pub struct Planned {
     asked: Items<u32>,
     origin: Option<Text>,
-    places: Items<Place>,
+    documents: Items<BuildDocument>,
 }
 
 impl Model for Planned {
@@ -27,28 +27,28 @@ impl Planned {
     ghost use Rattle.std.specs.Option.{IfSome};
     ghost use Rattle.json_shape.specs.Shapes.{IsTextWithin};
     ghost use Rattle.bsp_records.specs.Limits.{origin_limit};
-    ghost use Rattle.session_build.specs.Placed.{HasPlainAddress};
+    ghost use Rattle.session_build.specs.Documents.{HasPlainAddress};
 
-    pub fn new(asked: Items<u32>, origin: Option<Text>, places: Items<Place>) -> Planned
-        requires plain { All HasPlainAddress places }
-        requires distinct { AllPairs ◌≢◌ (map (λ place. place.address) places) }
+    pub fn new(asked: Items<u32>, origin: Option<Text>, documents: Items<BuildDocument>) -> Planned
+        requires plain { All HasPlainAddress documents }
+        requires distinct { AllPairs ◌≢◌ (map (λ document. document.address) documents) }
         requires short { IfSome origin (IsTextWithin origin_limit) }
-        ensures { result ≡ record { asked = asked; origin = origin; places = places } }
+        ensures { result ≡ record { asked = asked; origin = origin; documents = documents } }
     {
         Planned {
             asked,
             origin,
-            places,
+            documents,
         }
     }
 
     /// Its documents, in order.
-    pub fn places(&self) -> &[Place]
-        ensures places { result.now ≡ self.now.places }
+    pub fn documents(&self) -> &[BuildDocument]
+        ensures documents { result.now ≡ self.now.documents }
         ensures plain { All HasPlainAddress result.now }
-        ensures distinct { AllPairs ◌≢◌ (map (λ place. place.address) result.now) }
+        ensures distinct { AllPairs ◌≢◌ (map (λ document. document.address) result.now) }
     {
-        self.places.as_slice()
+        self.documents.as_slice()
     }
 
     pub fn origin(&self) -> &Option<Text>

@@ -12,7 +12,7 @@ use crate::verdicts::{Answer, Owed, Queued, Reason, TakenUp};
 use ob_text::{Held, NoMemory, Snapshot, Text};
 use rpc_peer::{Id, Message, Refusal, read_message};
 use serde_json::Value;
-use session_build::{Published, paths_of, publish_all};
+use session_build::{Outgoing, Published, paths_of, publish_all};
 use session_law::InputEnd;
 use std::alloc::Global;
 use std::collections::VecDeque;
@@ -27,7 +27,7 @@ const EXIT: &[u8] = b"build/exit";
 #[derive(Drop)]
 pub struct Core {
     alloc: Global,
-    out: VecDeque<Message>,
+    out: VecDeque<Outgoing>,
     // The workspace in force, once an initialize was answered with a result.
     workspace: Option<Workspace>,
     // A shutdown was answered with a result.
@@ -46,11 +46,12 @@ impl Core {
     ghost use Rattle.std.specs.Prelude.{◌≡◌, ◌<◌, [], ◌∷◌, ◌↔◌, List, None, Ok, IsTrue, IsSome, IfSome, IfNone, OnOk, OnErr, option_map};
     ghost use Rattle.rpc_peer.specs.Meaning.{meaning};
     ghost use Rattle.rpc_peer.specs.Said.{said, HasId, IsId};
+    ghost use Rattle.session_build.specs.Outgoing.{outgoing_said};
     ghost use Rattle.session_law.specs.IsFramed.{IsFramed};
     ghost use Rattle.session_law.specs.Methods.{asking, due_in, taken_in, unreadable, verdict};
     ghost use Rattle.session_law.specs.Order.{Event, take, ends, hand, write};
     ghost use Rattle.session_core.specs.Acting.{Acts, ActsOnHand, Answers, AnswersUnread, Asks, Builds, BuildsOn, Ends, Plans, ServesAs, AnswersAs, Steps, exited_by};
-    ghost use Rattle.session_core.specs.Judging.{HasTexts, call_of};
+    ghost use Rattle.session_core.specs.Judging.{HasQueuedTexts, queued_call};
     ghost use Rattle.session_core.specs.Reading.{AreReadable};
     ghost use Rattle.session_core.specs.Standing.{StandsFor, Awaits, Suits, IsFree, NeedsNothing, NeedsWhatItAwaits, IsQuiet, IsAlive, status_of, left_to_write};
     ghost use Rattle.session_core.specs.State.{handed_of, needed_paths, state_of};
@@ -128,11 +129,11 @@ impl Core {
     }
 
     /// The next message to write.
-    pub fn next_out(&mut self) -> Option<Message>
+    pub fn next_out(&mut self) -> Option<Outgoing>
         ensures stands { IfSome result (λ m. (order : List Event) → StandsFor self.old order
-            → StandsFor self.new (write (said m) ∷ order)) }
+            → StandsFor self.new (write (outgoing_said m) ∷ order)) }
         ensures framed { (order : List Event) → StandsFor self.old order
-            → IfSome result (λ m. IsFramed (said m)) }
+            → IfSome result (λ m. IsFramed (outgoing_said m)) }
         ensures fewer { IfSome result (λ _. left_to_write self.new < left_to_write self.old) }
         ensures none { IfNone result (IsQuiet self.old × IsQuiet self.new) }
         ensures keeps { IfNone result ((order : List Event) → StandsFor self.old order
@@ -222,10 +223,10 @@ impl Core {
     // Takes up a request of the queue.
     fn take_up(&mut self, id: Id, call: Queued) -> Result<(), NoMemory>
         requires named { IsId id }
-        requires texts { HasTexts call }
+        requires texts { HasQueuedTexts call }
         requires begun { IsSome self.old.workspace }
         ensures ok { OnOk result (ServesAs self.old self.new id
-            (taken_in self.old.workspace (call_of call))) }
+            (taken_in self.old.workspace (queued_call call))) }
         ensures alive { self.new.dead ≡ self.old.dead }
         ensures err { OnErr result (self.new.out.items ≡ self.old.out.items) }
     {
@@ -253,7 +254,7 @@ impl Core {
         ensures alive { self.new.dead ≡ self.old.dead }
         ensures err { OnErr result (self.new.out.items ≡ self.old.out.items) }
     {
-        let paths = paths_of(self.alloc, planned.places())?;
+        let paths = paths_of(self.alloc, planned.documents())?;
         self.awaiting = Some(Awaiting::Building { id, planned });
         self.need = Some(Need::Tree(paths));
         Ok(())
@@ -295,7 +296,7 @@ impl Core {
         ensures status { self.new.status ≡ self.old.status }
         ensures err { OnErr result (self.new.out.items ≡ self.old.out.items) }
     {
-        self.out.push_back(message)?;
+        self.out.push_back(Outgoing::Message(message))?;
         Ok(())
     }
 
@@ -372,11 +373,12 @@ impl Core {
         ensures status { self.new.status ≡ self.old.status }
         ensures err { OnErr result (self.new.out.items ≡ self.old.out.items) }
     {
-        let (places, origin) = (planned.places(), planned.origin());
-        let published = publish_all(self.alloc, &mut self.shown, places, origin, snapshot)?;
+        let (documents, origin) = (planned.documents(), planned.origin());
+        let published = publish_all(self.alloc, &mut self.shown, documents, origin, snapshot)?;
         let Published { messages, failed } = published;
         let mut messages = messages;
-        messages.push_back(compiled(self.alloc, id, origin, failed)?)?;
+        let answer = compiled(self.alloc, id, origin, failed)?;
+        messages.push_back(Outgoing::Message(answer))?;
         self.out = messages;
         Ok(())
     }

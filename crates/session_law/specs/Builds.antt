@@ -3,7 +3,7 @@ use Rattle.std.specs.Prelude.{◌≡◌, ◌==◌, ◌++◌, Contains, ℕ, List
 use Rattle.std.specs.List.{All, list_any, fold}
 use Rattle.std.specs.Str.{bytes_eq}
 use Rattle.ob_text.specs.Code.{severity_of}
-use Rattle.ob_text.specs.Held.{held_at}
+use Rattle.ob_text.specs.Held.{Entries, held_at}
 use Rattle.ob_text.specs.declared.code.Severity.{Severity}
 use Rattle.ob_text.specs.declared.code.Severity.TheVariants.{Error, Warning}
 use Rattle.ob_text.specs.declared.diagnostic.Diagnostic.{Diagnostic}
@@ -26,14 +26,13 @@ use Rattle.target_graph.specs.declared.target.Pair.{Pair}
 use Rattle.task_stream.specs.Pieces.{pieces}
 use Rattle.session_law.specs.Methods.{Build, is_named}
 use Rattle.ob_text.specs.Once.{each_once}
-use Rattle.session_law.specs.Order.{Entries}
-use Rattle.session_law.specs.declared.Place.{Place}
+use Rattle.session_law.specs.declared.BuildDocument.{BuildDocument}
 
 -- ---- the documents that a build is of
 
 -- a document in a target
-abbrev pub place_of : Space → Pair → Place
-place_of space pair =
+abbrev pub build_document : Space → Pair → BuildDocument
+build_document space pair =
     record {
       path = pair.path;
       address = record { document = document_address space.root pair.path; target = id_of space pair.target };
@@ -43,16 +42,16 @@ abbrev pub is_among : List ℕ → Pair → Bool
 is_among targets pair = list_any (λ target. target == pair.target) targets
 
 -- The documents of the targets asked for and of all that they depend on, in the order of the workspace file.
-pub record ArePlaces (build : Build) (places : List Place) : Type 0 where
+pub record AreDocuments (build : Build) (documents : List BuildDocument) : Type 0 where
   pub closure : List ℕ
   pub closed : IsClosure build.space.targets build.asked closure
-  pub are : places ≡ map (place_of build.space) (filter (is_among closure) (pairs_of build.space.targets))
+  pub are : documents ≡ map (build_document build.space) (filter (is_among closure) (pairs_of build.space.targets))
 
 -- the paths that a build wants, each once
 pub record WantsPaths (build : Build) (paths : List (List ℕ)) : Type 0 where
-  pub places : List Place
-  pub of_build : ArePlaces build places
-  pub are : paths ≡ each_once bytes_eq (map (λ place. place.path) places)
+  pub documents : List BuildDocument
+  pub of_build : AreDocuments build documents
+  pub are : paths ≡ each_once bytes_eq (map (λ document. document.path) documents)
 
 -- ---- what the clean build finds in what was handed out
 
@@ -62,16 +61,16 @@ handed_at entries path = unwrap_or (held_at entries path) Absent
 
 -- a document with its diagnostics
 pub record Finding : Type 0 where
-  pub place : Place
+  pub document : BuildDocument
   pub list : List Diagnostic
 
 -- these are the diagnostics of the document by what was handed out
 abbrev pub IsFound : Entries → Finding → Type 0
-IsFound entries finding = Diagnosed (handed_at entries finding.place.path) finding.list
+IsFound entries finding = Diagnosed (handed_at entries finding.document.path) finding.list
 
 -- each document of the build with its diagnostics, in order
 pub record CleanBuild (build : Build) (entries : Entries) (findings : List Finding) : Type 0 where
-  pub places : ArePlaces build (map (λ finding. finding.place) findings)
+  pub documents : AreDocuments build (map (λ finding. finding.document) findings)
   pub found : All (IsFound entries) findings
 
 abbrev pub is_error_severity : Severity → Bool
@@ -82,12 +81,12 @@ abbrev pub has_error : Finding → Bool
 has_error finding = list_any (λ diagnostic. is_error_severity (severity_of diagnostic.code)) finding.list
 
 -- the status of a build, which has an error or has none (Build Server Protocol 2.2, StatusCode)
-abbrev pub status_by : Bool → StatusCode
-status_by failed = if failed then statuses.Error else statuses.Ok
+abbrev pub build_status : Bool → StatusCode
+build_status failed = if failed then statuses.Error else statuses.Ok
 
 -- the response to a compile with this `originId`
 unfoldable pub build_said : Id → Option (List ℕ) → Bool → Said
-build_said id origin failed = result (Some id) (compile_result_data (record { origin_id = origin; status_code = status_by failed }))
+build_said id origin failed = result (Some id) (compile_result_data (record { origin_id = origin; status_code = build_status failed }))
 
 abbrev pub build_answer : Id → Build → List Finding → Said
 build_answer id build findings = build_said id build.origin (list_any has_error findings)
@@ -112,8 +111,8 @@ abbrev pub shown_by : Said → Table → Table
 shown_by m table = published_if (publication_in m) table
 
 -- the same once these messages were written, the first of them first
-abbrev pub table_with : List Said → Table → Table
-table_with messages table = fold (λ shows m. shown_by m shows) table messages
+abbrev pub table_behind : List Said → Table → Table
+table_behind messages table = fold (λ shows m. shown_by m shows) table messages
 
 -- ---- what is published
 
@@ -127,11 +126,11 @@ records_of list = map shown list
 
 -- the table shows the document's list
 abbrev pub Shows : Table → Finding → Type 0
-Shows table finding = table finding.place.address.document finding.place.address.target ≡ records_of finding.list
+Shows table finding = table finding.document.address.document finding.document.address.target ≡ records_of finding.list
 
 -- a document's whole list, in its pieces
 abbrev pub list_said : Option (List ℕ) → Finding → List Said
-list_said origin finding = map publication_said (pieces finding.place.address origin (records_of finding.list))
+list_said origin finding = map publication_said (pieces finding.document.address origin (records_of finding.list))
 
 -- what is published of one document: its list, unless the client shows it
 pub record Publishes (table : Table) (origin : Option (List ℕ)) (finding : Finding) (messages : List Said) : Type 0 where
@@ -142,7 +141,7 @@ pub record Publishes (table : Table) (origin : Option (List ℕ)) (finding : Fin
 pub data PublishesSome (table : Table) (origin : Option (List ℕ)) : List Finding → List Said → Type 0 where
   none : PublishesSome table origin [] []
   one_more : {done : List Finding} {messages : List Said} (finding : Finding) (own : List Said) → PublishesSome table origin done messages
-      → ¬ (Contains done finding) → Publishes (table_with messages table) origin finding own → PublishesSome table origin (done ++ finding ∷ []) (messages ++ own)
+      → ¬ (Contains done finding) → Publishes (table_behind messages table) origin finding own → PublishesSome table origin (done ++ finding ∷ []) (messages ++ own)
 
 -- the message publishes a list, or a piece of one
 abbrev pub is_publication : Said → Bool

@@ -2,12 +2,12 @@
 -- session is before it.
 use Rattle.std.specs.Prelude.{◌≡◌, ℕ, List, [], ◌∷◌, map, Option, None, IfSome}
 use Rattle.std.specs.List.{All}
-use Rattle.ob_text.specs.Held.{IsReadable}
+use Rattle.ob_text.specs.Held.{Entries, IsReadable}
 use Rattle.rpc_peer.specs.Said.{Said}
 use Rattle.session_law.specs.AnswersAtOnce.{IsCaughtUp}
 use Rattle.session_law.specs.AnswersOnce.{AnswersOnce}
 use Rattle.session_law.specs.IsFramed.{IsFramed}
-use Rattle.session_law.specs.Order.{Entries, Event, take, ends, hand, write}
+use Rattle.session_law.specs.Order.{Event, take, ends, hand, write}
 use Rattle.session_law.specs.Past.{Now, after, standing}
 use Rattle.session_law.specs.PublishesInBuildsOnly.{PublishesInBuildsOnly}
 use Rattle.session_law.specs.RefusesExactly.{RefusesExactly}

@@ -14,7 +14,7 @@ use Rattle.target_graph.specs.Address.{root_at}
 use Rattle.target_graph.specs.Workspace.{Space, named}
 use Rattle.target_graph.specs.declared.fault.FaultKind.{FaultKind}
 use Rattle.target_graph.specs.declared.fault.FaultKind.TheVariants as kinds
-use Rattle.session_law.specs.Order.{Entries}
+use Rattle.ob_text.specs.Held.{Entries}
 use Rattle.session_law.specs.Questions.{Question, all_targets, sources_of, inverse_of}
 use Rattle.serde_json.specs.Data.{Data, boolean, string, array, object, item, no_items, member, no_members}
 

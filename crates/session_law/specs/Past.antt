@@ -1,4 +1,4 @@
--- What a session is at a place of its order: what it owes, has opened, shows and has ended with.
+-- What a session is behind the events of its order so far: what it owes, has opened, shows and has ended with.
 use Rattle.std.specs.Prelude.{◌||◌, ℕ, ℤ, suc, List, [], ◌∷◌, ◌++◌, codes, Bool, false, Option, Some, None, Result, Ok, Err, drop, if◌then◌else◌}
 use Rattle.bsp_records.specs.Table.{Table, nothing_shown}
 use Rattle.ob_text.specs.declared.held.Held.{Held}

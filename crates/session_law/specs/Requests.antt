@@ -9,7 +9,7 @@ use Rattle.serde_json.specs.Data.{Data}
 use Rattle.target_graph.specs.Workspace.{Space}
 use Rattle.session_law.specs.Builds.{WantsPaths, handed_at}
 use Rattle.session_law.specs.Methods.{Build, Verdict, asking, opening, queued, building, built, answering, closing, refusal, verdict, due_in, unreadable, workspace_path, is_named}
-use Rattle.session_law.specs.Order.{Entries}
+use Rattle.ob_text.specs.Held.{Entries}
 
 -- A request that is open: it was taken, wasn't refused with the id null, and has no response yet.
 pub record Asked : Type 0 where

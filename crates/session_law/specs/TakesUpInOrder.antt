@@ -6,7 +6,7 @@ use Rattle.bsp_records.specs.Results.{compile_result_data}
 use Rattle.rpc_peer.specs.OpenIds.{same_id}
 use Rattle.rpc_peer.specs.Said.{Said, result}
 use Rattle.serde_json.specs.Data.{Data}
-use Rattle.session_law.specs.Builds.{Finding, CleanBuild, has_error, status_by}
+use Rattle.session_law.specs.Builds.{Finding, CleanBuild, has_error, build_status}
 use Rattle.session_law.specs.If.{If}
 use Rattle.session_law.specs.Past.{Now}
 use Rattle.session_law.specs.Requests.{Active, active_of}
@@ -14,7 +14,7 @@ use Rattle.session_law.specs.Requests.{Active, active_of}
 pub record AnswersBuild (active : Active) (value : Data) : Type 0 where
   pub findings : List Finding
   pub clean : CleanBuild active.build active.entries findings
-  pub value_is : value ≡ compile_result_data (record { origin_id = active.build.origin; status_code = status_by (list_any has_error findings) })
+  pub value_is : value ≡ compile_result_data (record { origin_id = active.build.origin; status_code = build_status (list_any has_error findings) })
 
 abbrev pub AnswersFor : Said → Option Active → Type 0
 AnswersFor (result (Some id) value) (Some active) = If (same_id id active.id) (AnswersBuild active value)

@@ -11,7 +11,7 @@ use task_stream::Address;
 
 /// A document in a target: its path in the workspace's folder, and where a client shows it.
 #[derive(Debug, Drop)]
-pub struct Place {
+pub struct BuildDocument {
     pub path: Path,
     pub address: Address,
 }

@@ -115,61 +115,80 @@ pub fn expect(
     Ok(())
 }
 
+const FILE_OF_APP: (&[u8], &[u8]) = (b"oberon-build.json", APP);
+
+const FILE_OF_BOTH: (&[u8], &[u8]) = (b"oberon-build.json", APP_ON_LIB);
+
+/// A session of compiles: the files, what changes before a call of the tree, which calls of it fail, the requests and
+/// what is answered.
+type Case = (
+    Files<'static>,
+    &'static [(u64, &'static [u8], &'static [u8])],
+    &'static [u64],
+    &'static [&'static [u8]],
+    &'static [&'static [u8]],
+);
+
+const CASES: [Case; 7] = [
+    // What was found is shown until it is mended.
+    (
+        &[FILE_OF_APP, (b"A.Mod", OPEN_COMMENT)],
+        &[(3, b"A.Mod", CLEAN)],
+        &[],
+        &[COMPILE_2, COMPILE_3],
+        &[OPEN_COMMENT_SHOWN, FAILED_2, CLEARED, PASSED_3],
+    ),
+    // What is shown already isn't published again.
+    (
+        &[FILE_OF_APP, (b"A.Mod", OPEN_COMMENT)],
+        &[],
+        &[],
+        &[COMPILE_2, COMPILE_3],
+        &[OPEN_COMMENT_SHOWN, FAILED_2, FAILED_3],
+    ),
+    (
+        &[FILE_OF_APP],
+        &[],
+        &[],
+        &[COMPILE_2],
+        &[ABSENT_SHOWN, FAILED_2],
+    ),
+    (
+        &[FILE_OF_APP, (b"A.Mod", b"MODULE A; BEGIN x = 1 END A.")],
+        &[],
+        &[],
+        &[COMPILE_2],
+        &[BAD_TOKEN_SHOWN, FAILED_2],
+    ),
+    // A target is compiled with all that it depends on, in the order of the file.
+    (
+        &[FILE_OF_BOTH, (b"A.Mod", OPEN_COMMENT)],
+        &[],
+        &[],
+        &[COMPILE_2],
+        &[LIB_SHOWN, OPEN_COMMENT_SHOWN, FAILED_2],
+    ),
+    (
+        &[FILE_OF_APP, (b"A.Mod", CLEAN)],
+        &[],
+        &[],
+        &[COMPILE_ZZZ, COMPILE_NONE, COMPILE_2],
+        &[UNKNOWN_TARGET, PASSED_NONE, PASSED_2],
+    ),
+    // The session goes on behind a tree that failed.
+    (
+        &[FILE_OF_APP, (b"A.Mod", CLEAN)],
+        &[],
+        &[2],
+        &[COMPILE_2, COMPILE_3],
+        &[UNREADABLE_2, PASSED_3],
+    ),
+];
+
 #[test]
 fn compiles(rt: HostRuntime) -> Result<(), Fail> {
     let alloc = rt.alloc();
-    let app: (&[u8], &[u8]) = (b"oberon-build.json", APP);
-    let both: (&[u8], &[u8]) = (b"oberon-build.json", APP_ON_LIB);
-    let cases: [(Files, &[(u64, &[u8], &[u8])], &[u64], &[&[u8]], &[&[u8]]); 7] = [
-        // What was found is shown until it is mended.
-        (
-            &[app, (b"A.Mod", OPEN_COMMENT)],
-            &[(3, b"A.Mod", CLEAN)],
-            &[],
-            &[COMPILE_2, COMPILE_3],
-            &[OPEN_COMMENT_SHOWN, FAILED_2, CLEARED, PASSED_3],
-        ),
-        // What is shown already isn't published again.
-        (
-            &[app, (b"A.Mod", OPEN_COMMENT)],
-            &[],
-            &[],
-            &[COMPILE_2, COMPILE_3],
-            &[OPEN_COMMENT_SHOWN, FAILED_2, FAILED_3],
-        ),
-        (&[app], &[], &[], &[COMPILE_2], &[ABSENT_SHOWN, FAILED_2]),
-        (
-            &[app, (b"A.Mod", b"MODULE A; BEGIN x = 1 END A.")],
-            &[],
-            &[],
-            &[COMPILE_2],
-            &[BAD_TOKEN_SHOWN, FAILED_2],
-        ),
-        // A target is compiled with all that it depends on, in the order of the file.
-        (
-            &[both, (b"A.Mod", OPEN_COMMENT)],
-            &[],
-            &[],
-            &[COMPILE_2],
-            &[LIB_SHOWN, OPEN_COMMENT_SHOWN, FAILED_2],
-        ),
-        (
-            &[app, (b"A.Mod", CLEAN)],
-            &[],
-            &[],
-            &[COMPILE_ZZZ, COMPILE_NONE, COMPILE_2],
-            &[UNKNOWN_TARGET, PASSED_NONE, PASSED_2],
-        ),
-        // The session goes on behind a tree that failed.
-        (
-            &[app, (b"A.Mod", CLEAN)],
-            &[],
-            &[2],
-            &[COMPILE_2, COMPILE_3],
-            &[UNREADABLE_2, PASSED_3],
-        ),
-    ];
-    for (files, changes, failing, requests, answers) in cases {
+    for (files, changes, failing, requests, answers) in CASES {
         let mut tree = tree(alloc, files, changes, failing)?;
         expect(&rt, &mut tree, requests, answers)?;
     }

@@ -63,39 +63,41 @@ const INVERSE_BAD: &[u8] =
 const INVERSE_BAD_ANSWER: &[u8] =
     b"{\"error\":{\"code\":-32602,\"message\":\"invalid params: textDocument.uri\"},\"id\":11,\"jsonrpc\":\"2.0\"}";
 
+/// A workspace file, the requests and what is answered.
+const CASES: [(&[u8], &[&[u8]], &[&[u8]]); 3] = [
+    (
+        APP,
+        &[SOURCES_2, INVERSE_3, TARGETS_4],
+        &[SOURCES_2_ANSWER, INVERSE_3_ANSWER, TARGETS_4_ANSWER],
+    ),
+    // Targets and documents are known in either spelling, and a target counts once.
+    (
+        THREE,
+        &[TARGETS_4, SOURCES_TWICE, SOURCES_NONE, INVERSE_SPELLED],
+        &[
+            THREE_TARGETS,
+            SOURCES_TWICE_ANSWER,
+            SOURCES_NONE_ANSWER,
+            INVERSE_SPELLED_ANSWER,
+        ],
+    ),
+    // What is bad or unknown is named at its place.
+    (
+        APP,
+        &[SOURCES_UNKNOWN, SOURCES_BAD, SOURCES_BARE, INVERSE_BAD],
+        &[
+            SOURCES_UNKNOWN_ANSWER,
+            SOURCES_BAD_ANSWER,
+            SOURCES_BARE_ANSWER,
+            INVERSE_BAD_ANSWER,
+        ],
+    ),
+];
+
 #[test]
 fn answers_questions(rt: HostRuntime) -> Result<(), Fail> {
     let alloc = rt.alloc();
-    let cases: [(&[u8], &[&[u8]], &[&[u8]]); 3] = [
-        (
-            APP,
-            &[SOURCES_2, INVERSE_3, TARGETS_4],
-            &[SOURCES_2_ANSWER, INVERSE_3_ANSWER, TARGETS_4_ANSWER],
-        ),
-        // Targets and documents are known in either spelling, and a target counts once.
-        (
-            THREE,
-            &[TARGETS_4, SOURCES_TWICE, SOURCES_NONE, INVERSE_SPELLED],
-            &[
-                THREE_TARGETS,
-                SOURCES_TWICE_ANSWER,
-                SOURCES_NONE_ANSWER,
-                INVERSE_SPELLED_ANSWER,
-            ],
-        ),
-        // What is bad or unknown is named at its place.
-        (
-            APP,
-            &[SOURCES_UNKNOWN, SOURCES_BAD, SOURCES_BARE, INVERSE_BAD],
-            &[
-                SOURCES_UNKNOWN_ANSWER,
-                SOURCES_BAD_ANSWER,
-                SOURCES_BARE_ANSWER,
-                INVERSE_BAD_ANSWER,
-            ],
-        ),
-    ];
-    for (workspace, requests, answers) in cases {
+    for (workspace, requests, answers) in CASES {
         let files: Files = &[(b"oberon-build.json", workspace)];
         let mut tree = tree(alloc, files, &[], &[])?;
         expect(&rt, &mut tree, requests, answers)?;

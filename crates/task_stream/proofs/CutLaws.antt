@@ -1,16 +1,14 @@
 -- How a list is cut, piece by piece.
-use Rattle.std.proofs.Common.{◌≡◌, ◌≢◌, ◌++◌, ◌≤◌, ◌<◌, ltb, Bool, ℕ, List, [], ◌∷◌, length, map, take, drop, min, true, false, Option, refl, sym, ap, ◌∙◌, subst, arith, append_assoc}
+use Rattle.std.proofs.Common.{◌≡◌, ◌++◌, ◌≤◌, ◌<◌, ◌+◌, ◌-◌, ltb, Bool, ℕ, zero, suc, List, [], ◌∷◌, length, map, take, drop, min, true, false, Option, refl, sym, ap, ◌∙◌, arith, append_assoc}
+use Rattle.std.specs.Prelude.{◌==◌}
 use Rattle.std.proofs.Math.ListN.{drop_of_length-le}
 use Rattle.std.proofs.lemmas.Bool.{ltb-false}
 use Rattle.std.proofs.lemmas.Bool.Decides.{nat_tests}
-use Rattle.std.proofs.lemmas.List.{take_min, take-map, drop-map, length-map, length-drop}
-use Rattle.std.specs.List.{All}
-use Rattle.std.proofs.lemmas.List.Elements.{All-nil, All-cons, All-append}
-use Rattle.ob_text.specs.declared.diagnostic.Diagnostic.{Diagnostic}
+use Rattle.std.proofs.lemmas.List.{length-drop, drop-drop}
 use Rattle.bsp_records.specs.Short.{diagnostics_limit}
-use Rattle.bsp_records.specs.Shown.{shown}
+use Rattle.bsp_records.specs.declared.diagnostics.DiagnosticRecord.{DiagnosticRecord}
 use Rattle.bsp_records.specs.declared.publishing.PublishDiagnosticsParams.{PublishDiagnosticsParams}
-use Rattle.task_stream.specs.Pieces.{cut, piece, pieces}
+use Rattle.task_stream.specs.Pieces.{cut, later_pieces, piece, pieces}
 use Rattle.task_stream.specs.declared.shown.Address.{Address}
 use Rattle.task_stream.proofs.PieceLaws.{cut_same}
 
@@ -27,57 +25,58 @@ drop_min {A = A} n items = by_test (ltb (length items) n) refl
         let least : min n (length items) ≡ n = omega arith in
         ap (λ k. drop k items) least
 
--- the front of a list, as it is shown
-front_shown : (list front : List Diagnostic) (n : ℕ) → n ≡ min diagnostics_limit (length list) → front ≡ take n list → map shown front ≡ take diagnostics_limit (map shown list)
-front_shown list front n least is =
-    ap (map shown) (is ∙ (ap (λ k. take k list) least ∙ take_min diagnostics_limit list)) ∙ sym (take-map shown diagnostics_limit list)
+-- the first of what is left, and the others
+cut_step : {A : Type 0} (left : ℕ) (items : List A) → length items ≡ left → 0 < left
+    → cut left items ≡ take diagnostics_limit items ∷ cut (left - min diagnostics_limit left) (drop diagnostics_limit items)
+cut_step left [] is more = absurd (omega arith)
+cut_step zero (x ∷ xs) is more = absurd (omega arith)
+cut_step (suc most) (x ∷ xs) is more =
+    let size = length-drop diagnostics_limit (x ∷ xs) in
+    ap (λ rest. take diagnostics_limit (x ∷ xs) ∷ rest) (cut_same most (suc most - min diagnostics_limit (suc most)) (drop diagnostics_limit (x ∷ xs)) (omega (arith, size, is)) (omega (arith, size, is)))
 
-back_shown : (list back : List Diagnostic) (n : ℕ) → n ≡ min diagnostics_limit (length list) → back ≡ drop n list → map shown back ≡ drop diagnostics_limit (map shown list)
-back_shown list back n least is =
-    ap (map shown) (is ∙ (ap (λ k. drop k list) least ∙ drop_min diagnostics_limit list)) ∙ sym (drop-map shown diagnostics_limit list)
+not_first : (n : ℕ) → 0 < n → (n == 0) ≡ false
+not_first n h = grind (arith, nat_tests)
 
--- what is left behind a piece is cut alike, however many pieces there may be
-back_cut : (most : ℕ) (list back : List Diagnostic) (n : ℕ) → length back ≤ most → n ≡ min diagnostics_limit (length list) → back ≡ drop n list
-    → cut (length back) (map shown back) ≡ cut most (drop diagnostics_limit (map shown list))
-back_cut most list back n room least is =
-    cut_same (length back) most (map shown back) (let l = length-map back shown in omega (arith, l)) (let l = length-map back shown in omega (arith, l))
-    ∙ ap (cut most) (back_shown list back n least is)
+-- the pieces of what is left of so many
+abbrev pub pieces_left : Address → Option (List ℕ) → List DiagnosticRecord → ℕ → ℕ → List PublishDiagnosticsParams
+pieces_left address origin records count left = map (piece address origin false) (cut left (drop (count - left) records))
 
-less : (list back : List Diagnostic) (n : ℕ) → back ≡ drop n list → length back ≤ length list
-less list back n is = let l = length-drop n list in let m : length back ≡ length (drop n list) = ap length is in omega (arith, l, m)
+module _ (address : Address) (origin : Option (List ℕ)) (records : List DiagnosticRecord) (count : ℕ) (size : length records ≡ count) where
+  abbrev behind : ℕ → List PublishDiagnosticsParams
+  behind left = pieces_left address origin records count left
 
-pub first_piece : (address : Address) (origin : Option (List ℕ)) (list front back : List Diagnostic) (n : ℕ) → n ≡ min diagnostics_limit (length list) → front ≡ take n list → back ≡ drop n list
-    → piece address origin true (map shown front) ∷ map (piece address origin false) (cut (length back) (map shown back)) ≡ pieces address origin (map shown list)
-first_piece address origin list front back n least at_front at_back =
-    let all : length (map shown list) ≡ length list = length-map list shown in
-    let small : length back ≤ length (map shown list) = let l = less list back n at_back in omega (arith, l, all) in
-    ap (λ records. piece address origin true records ∷ map (piece address origin false) (cut (length back) (map shown back))) (front_shown list front n least at_front)
-    ∙ ap (λ parts. piece address origin true (take diagnostics_limit (map shown list)) ∷ map (piece address origin false) parts)
-    (back_cut (length (map shown list)) list back n small least at_back)
+  -- the first piece, and those of what is left behind it
+  pub first_piece : (least : ℕ) → least ≡ min diagnostics_limit count
+      → piece address origin true (take diagnostics_limit (drop 0 records)) ∷ pieces_left address origin records count (count - least) ≡ pieces address origin records
+  first_piece least is =
+      let total : length records ≡ count = size in
+      let at : count - (count - least) ≡ min diagnostics_limit (length records) = omega (arith, is, total) in
+      let rest : drop (count - (count - least)) records ≡ drop diagnostics_limit records = ap (λ k. drop k records) at ∙ drop_min diagnostics_limit records in
+      let dropped = length-drop diagnostics_limit records in
+      let same : cut (count - least) (drop diagnostics_limit records) ≡ later_pieces records =
+      cut_same (count - least) (length records) (drop diagnostics_limit records) (omega (arith, dropped, total, is)) (omega (arith, dropped)) in
+      ap (λ parts. piece address origin true (take diagnostics_limit records) ∷ map (piece address origin false) parts) (ap (cut (count - least)) rest ∙ same)
 
--- the next piece of what is left
-cut_next : (list front back : List Diagnostic) (n : ℕ) → list ≢ [] → n ≡ min diagnostics_limit (length list) → front ≡ take n list → back ≡ drop n list
-    → map shown front ∷ cut (length back) (map shown back) ≡ cut (length list) (map shown list)
-cut_next [] front back n some least at_front at_back = absurd (some refl)
-cut_next (x ∷ list) front back n some least at_front at_back =
-    let small : length back ≤ length list = shorter in
-    ap (λ records. records ∷ cut (length back) (map shown back)) (front_shown (x ∷ list) front n least at_front)
-    ∙ ap (λ parts. take diagnostics_limit (map shown (x ∷ list)) ∷ parts) (back_cut (length list) (x ∷ list) back n small least at_back)
-  where
-    shorter : length back ≤ length list
-    shorter =
-        let l = length-drop n (x ∷ list) in
-        let m : length back ≡ length (drop n (x ∷ list)) = ap length at_back in
-        omega (arith, l, m, least)
+  -- the next piece of what is left, and those behind it
+  next_cut : (left least : ℕ) → least ≡ min diagnostics_limit left → 0 < left → left ≤ count
+      → cut left (drop (count - left) records) ≡ take diagnostics_limit (drop (count - left) records) ∷ cut (left - least) (drop (count - (left - least)) records)
+  next_cut left least is more within =
+      let total : length records ≡ count = size in
+      let rest : List DiagnosticRecord = drop (count - left) records in
+      let dropped = length-drop (count - left) records in
+      let length_is : length rest ≡ left = omega (arith, dropped, total, within) in
+      let at : count - (left - least) ≡ (count - left) + min diagnostics_limit (length rest) = omega (arith, is, within, length_is) in
+      let behind_it : drop (count - (left - least)) records ≡ drop diagnostics_limit rest =
+      ap (λ k. drop k records) at ∙ (sym (drop-drop (min diagnostics_limit (length rest)) (count - left) records) ∙ drop_min diagnostics_limit rest) in
+      cut_step left rest length_is more
+      ∙ (ap (λ k. take diagnostics_limit rest ∷ cut (left - k) (drop diagnostics_limit rest)) (sym is)
+      ∙ ap (λ r. take diagnostics_limit rest ∷ cut (left - least) r) (sym behind_it))
 
-pub next_piece : (address : Address) (origin : Option (List ℕ)) (before : List PublishDiagnosticsParams) (list front back : List Diagnostic) (n : ℕ) → list ≢ []
-    → n ≡ min diagnostics_limit (length list) → front ≡ take n list → back ≡ drop n list
-    → (before ++ piece address origin false (map shown front) ∷ []) ++ map (piece address origin false) (cut (length back) (map shown back))
-    ≡ before ++ map (piece address origin false) (cut (length list) (map shown list))
-next_piece address origin before list front back n some least at_front at_back =
-    append_assoc before (piece address origin false (map shown front) ∷ []) (map (piece address origin false) (cut (length back) (map shown back)))
-    ∙ ap (λ parts. before ++ map (piece address origin false) parts) (cut_next list front back n some least at_front at_back)
-
--- what holds of all and of one more
-pub all_pushed : {A : Type 0} (P : A → Type 0) (before : List A) (x : A) (after : List A) → after ≡ before ++ x ∷ [] → All P before → P x → All P after
-all_pushed P before x after is all one = subst (λ l. All P l) (sym is) (All-append P before (x ∷ []) all (All-cons P x [] one (All-nil P)))
+  pub next_piece : (before : List PublishDiagnosticsParams) (left least : ℕ) → least ≡ min diagnostics_limit left → 0 < left → left < count
+      → (before ++ piece address origin (count - left == 0) (take diagnostics_limit (drop (count - left) records)) ∷ []) ++ pieces_left address origin records count (left - least) ≡ before ++ pieces_left address origin records count left
+  next_piece before left least is more within =
+      let own = take diagnostics_limit (drop (count - left) records) in
+      let later : (count - left == 0) ≡ false = not_first (count - left) (omega (arith, within)) in
+      ap (λ b. (before ++ piece address origin b own ∷ []) ++ behind (left - least)) later
+      ∙ (append_assoc before (piece address origin false own ∷ []) (behind (left - least))
+      ∙ ap (λ parts. before ++ map (piece address origin false) parts) (sym (next_cut left least is more (omega (arith, within)))))

@@ -1,3 +1,4 @@
-pub mod PieceLaws
 pub mod CutLaws
-pub mod RecordLaws
+pub mod PieceLaws
+pub mod SameLaws
+pub mod WaitingLaws

@@ -2,19 +2,23 @@
 use Rattle.std.proofs.Common.{◌≡◌, ◌++◌, ◌≤◌, ℕ, zero, suc, List, [], ◌∷◌, length, map, take, drop, Bool, true, false, Option, refl, sym, ap, ◌∙◌, subst, arith, append_assoc, append-nil}
 use Rattle.std.proofs.lemmas.List.{take-append-drop, length-drop, length-take}
 use Rattle.std.proofs.lemmas.Slice.Eq.{bytes_eq-Decides}
-use Rattle.std.proofs.lemmas.List.Elements.{All-nil, All-cons, All-take, All-drop}
+use Rattle.std.proofs.lemmas.List.Elements.{All-nil, All-cons, All-head, All-tail, All-take, All-drop}
 use Rattle.std.specs.Prelude.{⊤, ◌&&◌, if◌then◌else◌}
 use Rattle.std.specs.List.{All}
 use Rattle.std.specs.Option.{IfSome}
 use Rattle.std.specs.Str.{bytes_eq}
 use Rattle.ob_text.specs.Ascii.{IsWithin}
 use Rattle.bsp_records.specs.Limits.{origin_limit}
+use Rattle.ob_text.specs.declared.diagnostic.Diagnostic.{Diagnostic}
+use Rattle.bsp_records.proofs.ShortLaws.{shown_short}
 use Rattle.bsp_records.specs.Short.{diagnostics_limit, IsShortAddress, IsShortPublication, IsShortRecord}
+use Rattle.bsp_records.specs.Shown.{shown}
 use Rattle.bsp_records.specs.Table.{Table, published, table_with}
 use Rattle.bsp_records.specs.declared.diagnostics.DiagnosticRecord.{DiagnosticRecord}
 use Rattle.bsp_records.specs.declared.publishing.PublishDiagnosticsParams.{PublishDiagnosticsParams}
 use Rattle.task_stream.specs.Pieces.{cut, later_pieces, piece, pieces, IsPiece}
 use Rattle.task_stream.specs.Showing.{is_at, shows, MakeShow}
+use Rattle.task_stream.specs.Waiting.{IsShortDiagnostic}
 use Rattle.task_stream.specs.declared.shown.Address.{Address}
 use Rattle.task_stream.specs.declared.shown.Shown.{Shown}
 
@@ -146,3 +150,10 @@ pieces_short ps address origin records is all document target within =
     subst (All IsShortPublication) (sym is)
     (all_pieces IsShortRecord IsShortPublication address origin
     (λ reset part few short. record { document = document; target = target; origin = within; count = few; diagnostics = short }) records all)
+
+-- the records of a text's diagnostics are short
+pub records_short : (list : List Diagnostic) → All IsShortDiagnostic list → All IsShortRecord (map shown list)
+records_short [] all = All-nil IsShortRecord
+records_short (d ∷ list) all =
+    let short = All-head IsShortDiagnostic d list all in
+    All-cons IsShortRecord (shown d) (map shown list) (shown_short d (shown d) refl short.0 short.1) (records_short list (All-tail IsShortDiagnostic d list all))

@@ -1,2 +1,4 @@
 pub mod Pieces
+pub mod Same
 pub mod Showing
+pub mod Waiting

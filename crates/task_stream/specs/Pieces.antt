@@ -1,20 +1,14 @@
 -- A list of diagnostics as its publications (Build Server Protocol 2.2, build/publishDiagnostics).
 use Rattle.std.specs.Prelude.{ℕ, ◌≤◌, zero, suc, List, [], ◌∷◌, length, map, take, drop, Bool, true, false, Option}
 use Rattle.bsp_records.specs.Short.{diagnostics_limit}
+use Rattle.bsp_records.specs.Shown.{publication}
 use Rattle.bsp_records.specs.declared.diagnostics.DiagnosticRecord.{DiagnosticRecord}
 use Rattle.bsp_records.specs.declared.publishing.PublishDiagnosticsParams.{PublishDiagnosticsParams}
 use Rattle.task_stream.specs.declared.shown.Address.{Address}
 
 -- one publication
 abbrev pub piece : Address → Option (List ℕ) → Bool → List DiagnosticRecord → PublishDiagnosticsParams
-piece address origin reset records =
-    record {
-      text_document = record { uri = address.document };
-      build_target = record { uri = address.target };
-      origin_id = origin;
-      diagnostics = records;
-      reset = reset;
-    }
+piece address origin reset records = publication address.document address.target origin reset records
 
 -- A list cut into pieces of the limit and a shorter last one; an empty list has none. There are at most
 -- `most` pieces.

@@ -1,7 +1,11 @@
 -- What a client shows, as it is kept.
-use Rattle.std.specs.Prelude.{◌≡◌, ◌==◌, ◌&&◌, ℕ, List, [], Bool, unwrap_or, if◌then◌else◌}
+use Rattle.std.specs.Prelude.{◌≡◌, ◌==◌, ◌&&◌, ℕ, List, [], map, Bool, Option, Some, None, if◌then◌else◌}
 use Rattle.std.specs.Cmp.Lexicographic.{pointwise}
+use Rattle.std.specs.declared.alloc.Global.{Global}
+use Rattle.std.specs.declared.sync.Arc.{Arc}
 use Rattle.indexmap.specs.IndexMap.{get}
+use Rattle.ob_text.specs.declared.diagnostic.Diagnostic.{Diagnostic}
+use Rattle.bsp_records.specs.Shown.{shown}
 use Rattle.bsp_records.specs.Table.{Table, table_with}
 use Rattle.bsp_records.specs.declared.diagnostics.DiagnosticRecord.{DiagnosticRecord}
 use Rattle.bsp_records.specs.declared.publishing.PublishDiagnosticsParams.{PublishDiagnosticsParams}
@@ -12,9 +16,14 @@ use Rattle.task_stream.specs.declared.shown.Shown.{Shown}
 abbrev pub address_of : List ℕ → List ℕ → Address
 address_of document target = record { document = document; target = target }
 
+-- what is kept of a list, as it is shown; nothing is shown where none is kept
+abbrev pub shown_of : Option (Arc (List Diagnostic) Global) → List DiagnosticRecord
+shown_of None = []
+shown_of (Some list) = map shown list.value
+
 -- the list that is shown at an address
 abbrev pub shows : Shown → Table
-shows shown document target = unwrap_or (get eq-value.it shown.lists (address_of document target)) []
+shows kept document target = shown_of (get eq-value.it kept.lists (address_of document target))
 
 abbrev pub is_at : Address → List ℕ → List ℕ → Bool
 is_at address document target = pointwise ◌==◌ address.document document && pointwise ◌==◌ address.target target

@@ -1,24 +1,48 @@
-ghost use Rattle.std.specs.Prelude.{◌≡◌, ◌&&◌, ◌↔◌, IsTrue};
+ghost use Rattle.std.specs.Prelude.{◌≡◌, ◌↔◌, ◌&&◌, map, IsTrue};
+ghost use Rattle.bsp_records.specs.Shown.{shown};
+ghost use Rattle.task_stream.specs.Same.{name_shown};
 
-use bsp_records::{DiagnosticRecord, DiagnosticSeverity};
-use ob_text::{Range, Text};
+use ob_text::{Code, Diagnostic, Name, Range};
 
-/// Whether two records are equal.
-pub fn same_record(x: &DiagnosticRecord, y: &DiagnosticRecord) -> bool
-    ensures { IsTrue result ↔ (x.now ≡ y.now) }
+/// The most bytes of a name that a message shows.
+const NAME_SHOWN: usize = 64;
+
+/// Whether two lists are shown alike.
+pub fn same_shown(a: &[Diagnostic], b: &[Diagnostic]) -> bool
+    ensures { IsTrue result ↔ (map shown a.now ≡ map shown b.now) }
 {
-    let range = same_range(x.range, y.range);
-    let severity = same_severity(x.severity, y.severity);
-    let code = same_some(&x.code, &y.code);
-    let source = same_some(&x.source, &y.source);
-    let message = same_text(&x.message, &y.message);
-    all(range, severity, code, source, message)
+    let mut xs = a;
+    let mut ys = b;
+    'diagnostics: loop {
+        let Some((x, others)) = xs.split_first() else {
+            return ys.is_empty();
+        };
+        let Some((y, more)) = ys.split_first() else {
+            return false;
+        };
+        if !same_record(x, y) {
+            return false;
+        }
+        xs = others;
+        ys = more;
+    }
 }
 
-fn all(a: bool, b: bool, c: bool, d: bool, e: bool) -> bool
-    ensures { result ≡ (a && (b && (c && (d && e)))) }
+/// Whether two diagnostics are shown alike: they are at the same range, say the same, and their names are the same as
+/// far as a message shows them.
+fn same_record(x: &Diagnostic, y: &Diagnostic) -> bool
+    ensures { IsTrue result ↔ (shown x.now ≡ shown y.now) }
 {
-    a && b && c && d && e
+    let range = same_range(x.range, y.range);
+    let code = same_code(x.code, y.code);
+    let name = same_name(&x.name, &y.name);
+    all(range, code, name)
+}
+
+fn all(a: bool, b: bool, c: bool) -> bool
+    ensures { result ≡ ((a && b) && c) }
+{
+    a && b && c
 }
 
 fn same_range(a: Range, b: Range) -> bool
@@ -27,28 +51,27 @@ fn same_range(a: Range, b: Range) -> bool
     a == b
 }
 
-fn same_severity(a: Option<DiagnosticSeverity>, b: Option<DiagnosticSeverity>) -> bool
+fn same_code(a: Code, b: Code) -> bool
     ensures { IsTrue result ↔ (a ≡ b) }
 {
-    match (a, b) {
-        (Some(a), Some(b)) => a == b,
-        (None, None) => true,
-        _ => false,
-    }
+    a == b
 }
 
-fn same_some(a: &Option<Text>, b: &Option<Text>) -> bool
-    ensures { IsTrue result ↔ (a.now ≡ b.now) }
+fn same_name(a: &Option<Name>, b: &Option<Name>) -> bool
+    ensures { IsTrue result ↔ (name_shown a.now ≡ name_shown b.now) }
 {
-    match (a, b) {
-        (Some(a), Some(b)) => same_text(a, b),
-        (None, None) => true,
-        _ => false,
-    }
+    front(a) == front(b)
 }
 
-fn same_text(a: &Text, b: &Text) -> bool
-    ensures { IsTrue result ↔ (a.now ≡ b.now) }
+/// As much of a name as a message shows, nothing where there is none.
+fn front(name: &Option<Name>) -> &[u8]
+    ensures { result.now ≡ name_shown name.now }
 {
-    a.as_slice() == b.as_slice()
+    match name {
+        Some(name) => {
+            let name = name.as_slice();
+            name.split_at(NAME_SHOWN.min(name.len())).0
+        }
+        None => &[],
+    }
 }

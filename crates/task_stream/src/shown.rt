@@ -1,25 +1,20 @@
 ghost use Rattle.std.specs.Prelude.{◌≡◌, ◌≢◌, ◌↔◌, ◌++◌, ℕ, [], List, map, IfOk, IfSome, IsTrue, OnOk, OnErr};
 ghost use Rattle.std.specs.List.{All};
 ghost use Rattle.std.specs.Str.{IsUtf8};
-ghost use Rattle.bsp_records.specs.Diagnostics.{HasPublishTexts};
 ghost use Rattle.ob_text.specs.Ascii.{IsWithin};
 ghost use Rattle.bsp_records.specs.Limits.{origin_limit};
-ghost use Rattle.bsp_records.specs.Short.{IsShortAddress, IsShortPublication};
+ghost use Rattle.bsp_records.specs.Short.{IsShortAddress, IsShortPosition, IsShortPublication};
 ghost use Rattle.bsp_records.specs.Shown.{shown, HasPlainName};
-ghost use Rattle.task_stream.specs.Pieces.{pieces, later_pieces, piece, IsPiece};
-ghost use Rattle.task_stream.specs.Showing.{address_of, shows, MakeShow, ShowsNow};
+ghost use Rattle.task_stream.specs.Pieces.{pieces, IsPiece};
+ghost use Rattle.task_stream.specs.Showing.{shows, MakeShow, ShowsNow};
+ghost use Rattle.task_stream.specs.Waiting.{IsShortDiagnostic, IsSoundWhole, records_of};
 
-use crate::same::same_record;
-use bsp_records::{
-    BuildTargetIdentifier, DiagnosticRecord, PublishDiagnosticsParams, TextDocumentIdentifier,
-    show_all,
-};
+use crate::piece::{PIECE_LIMIT, Piece, Whole};
+use crate::same::same_shown;
 use indexmap::IndexMap;
-use ob_text::{Diagnostic, Items, NoMemory, Text};
+use ob_text::{Diagnostic, Items, NoMemory, Range, Text};
 use std::alloc::Global;
-
-/// The most diagnostics of one publication.
-const PIECE_LIMIT: usize = 100;
+use std::sync::Arc;
 
 /// The address of a document, and the id of a target that has it. A client shows diagnostics for both
 /// together (Build Server Protocol 2.2, build/publishDiagnostics).
@@ -45,7 +40,7 @@ impl Address {
 #[derive(Drop)]
 pub struct Shown {
     alloc: Global,
-    lists: IndexMap<Address, Items<DiagnosticRecord>>,
+    lists: IndexMap<Address, Arc<Items<Diagnostic>>>,
 }
 
 impl Shown {
@@ -60,132 +55,118 @@ impl Shown {
     }
 
     /// The publications that make a client show this list by the reset rule, none where it shows it
-    /// already. The list is in pieces of 100 diagnostics and a last one, of which the first resets.
+    /// already. The list is in pieces of 100 diagnostics and a last one, of which the first resets. They share the list,
+    /// and what is kept of the client shares it too.
     #[tactic(auto, using(crate::proofs::PieceLaws::none_make))]
     pub fn publish(
         &mut self,
         address: &Address,
-        origin: &Option<Text>,
-        list: &[Diagnostic],
-    ) -> Result<Vec<PublishDiagnosticsParams>, NoMemory>
+        origin: &Arc<Option<Text>>,
+        list: Vec<Diagnostic>,
+    ) -> Result<Vec<Piece>, NoMemory>
         requires document { IsUtf8 address.now.document }
         requires target { IsUtf8 address.now.target }
-        requires origin { IfSome origin.now IsUtf8 }
-        requires names { All HasPlainName list.now }
+        requires origin { IfSome origin.now.value IsUtf8 }
+        requires names { All HasPlainName list.items }
         ensures same { IfOk result (λ ps. shows self.old address.now.document address.now.target
-            ≡ map shown list.now → ps.items ≡ []) }
+            ≡ map shown list.items → ps.items ≡ []) }
         ensures other { IfOk result (λ ps. shows self.old address.now.document address.now.target
-            ≢ map shown list.now → ps.items ≡ pieces address.now origin.now (map shown list.now)) }
+            ≢ map shown list.items
+            → ps.items ≡ pieces address.now origin.now.value (map shown list.items)) }
         ensures none { IfOk result (λ ps. ps.items ≡ []
-            → shows self.old address.now.document address.now.target ≡ map shown list.now) }
+            → shows self.old address.now.document address.now.target ≡ map shown list.items) }
         ensures client { IfOk result (λ ps. MakeShow ps.items self.old address.now
-            (map shown list.now)) }
-        ensures table { OnOk result (ShowsNow self.old self.new address.now (map shown list.now)) }
-        ensures texts { IfOk result (λ ps. All HasPublishTexts ps.items) }
+            (map shown list.items)) }
+        ensures table { OnOk result (ShowsNow self.old self.new address.now (map shown list.items)) }
         ensures few { IfOk result (λ ps. All IsPiece ps.items) }
         ensures short { IsShortAddress address.now.document → IsShortAddress address.now.target
-            → IfSome origin.now (IsWithin origin_limit)
+            → IfSome origin.now.value (IsWithin origin_limit)
             → IfOk result (λ ps. All IsShortPublication ps.items) }
         ensures err { OnErr result ((document target : List ℕ)
             → shows self.new document target ≡ shows self.old document target) }
     {
-        let records = show_all(self.alloc, list)?;
-        if self.is_shown(address, &records) {
+        if self.is_shown(address, list.as_slice()) {
             return Ok(Vec::new(self.alloc));
         }
-        let publications = cut(self.alloc, address, origin, list)?;
+        let list = Arc::new(self.alloc, fitted(list))?;
+        let pieces = pieces_of(self.alloc, address, origin, &list)?;
         let key = address.copy(self.alloc)?;
-        self.lists.insert(key, records)?;
-        Ok(publications)
+        self.lists.insert(key, list)?;
+        Ok(pieces)
     }
 
-    fn is_shown(&self, address: &Address, records: &Items<DiagnosticRecord>) -> bool
-        ensures { IsTrue result ↔ (shows self.now address.now.document address.now.target ≡ records.now) }
+    fn is_shown(&self, address: &Address, list: &[Diagnostic]) -> bool
+        ensures { IsTrue result
+            ↔ (shows self.now address.now.document address.now.target ≡ map shown list.now) }
     {
         match self.lists.get(address) {
-            Some(list) => same_records(list.as_slice(), records.as_slice()),
-            None => records.as_slice().is_empty(),
+            Some(kept) => same_shown(kept.as_slice(), list),
+            None => list.is_empty(),
         }
     }
 }
 
-fn same_records(a: &[DiagnosticRecord], b: &[DiagnosticRecord]) -> bool
-    ensures { IsTrue result ↔ (a.now ≡ b.now) }
+/// The list, with no room for more.
+fn fitted(list: Vec<Diagnostic>) -> Items<Diagnostic>
+    ensures same { result ≡ list.items }
+    ensures short { All IsShortDiagnostic result }
 {
-    let mut xs = a;
-    let mut ys = b;
-    'records: loop {
-        let Some((x, others)) = xs.split_first() else {
-            return ys.is_empty();
-        };
-        let Some((y, more)) = ys.split_first() else {
-            return false;
-        };
-        if !same_record(x, y) {
-            return false;
-        }
-        xs = others;
-        ys = more;
+    read_ranges(list.as_slice());
+    let mut list = list;
+    list.shrink_to_fit();
+    Items::from_vec(list)
+}
+
+/// Each number of the ranges has 32 bits. A proof learns that of a number as it is read, and so nothing else is done.
+fn read_ranges(list: &[Diagnostic])
+    ensures { All IsShortDiagnostic list.now }
+{
+    for diagnostic in list {
+        read_range(diagnostic.range);
     }
 }
 
-/// A list as the publications of its pieces.
-fn cut(
+fn read_range(range: Range)
+    ensures start { IsShortPosition range.start }
+    ensures end { IsShortPosition range.end }
+{}
+
+/// The pieces of a list for an address.
+fn pieces_of(
     alloc: Global,
     address: &Address,
-    origin: &Option<Text>,
-    list: &[Diagnostic],
-) -> Result<Vec<PublishDiagnosticsParams>, NoMemory>
+    origin: &Arc<Option<Text>>,
+    list: &Arc<Items<Diagnostic>>,
+) -> Result<Vec<Piece>, NoMemory>
     requires document { IsUtf8 address.now.document }
     requires target { IsUtf8 address.now.target }
-    requires origin { IfSome origin.now IsUtf8 }
-    requires names { All HasPlainName list.now }
-    ensures pieces { IfOk result (λ ps. ps.items
-        ≡ pieces address.now origin.now (map shown list.now)) }
-    ensures texts { IfOk result (λ ps. All HasPublishTexts ps.items) }
+    requires origin { IfSome origin.now.value IsUtf8 }
+    requires names { All HasPlainName list.now.value }
+    ensures { IfOk result (λ ps. ps.items
+        ≡ pieces address.now origin.now.value (map shown list.now.value)) }
 {
-    let mut publications = Vec::new(alloc);
-    let (first, mut rest) = list.split_at(PIECE_LIMIT.min(list.len()));
-    publications.push(publication(alloc, address, origin, first, true)?)?;
-    'pieces: while !rest.is_empty() {
-        let (piece, others) = rest.split_at(PIECE_LIMIT.min(rest.len()));
-        publications.push(publication(alloc, address, origin, piece, false)?)?;
-        rest = others;
-    }
-    Ok(publications)
+    let whole = Whole {
+        address: address.copy(alloc)?,
+        origin: origin.clone()?,
+        list: list.clone()?,
+    };
+    cut(alloc, whole)
 }
 
-fn publication(
-    alloc: Global,
-    address: &Address,
-    origin: &Option<Text>,
-    list: &[Diagnostic],
-    reset: bool,
-) -> Result<PublishDiagnosticsParams, NoMemory>
-    requires document { IsUtf8 address.now.document }
-    requires target { IsUtf8 address.now.target }
-    requires origin { IfSome origin.now IsUtf8 }
-    requires names { All HasPlainName list.now }
-    ensures piece { IfOk result (λ p. p
-        ≡ piece address.now origin.now reset (map shown list.now)) }
-    ensures texts { IfOk result HasPublishTexts }
+/// A list as its pieces.
+fn cut(alloc: Global, whole: Whole) -> Result<Vec<Piece>, NoMemory>
+    requires { IsSoundWhole whole }
+    ensures { IfOk result (λ ps. ps.items
+        ≡ pieces whole.address whole.origin.value (records_of whole)) }
 {
-    let text_document = TextDocumentIdentifier {
-        uri: address.document.copy(alloc)?,
-    };
-    let build_target = BuildTargetIdentifier {
-        uri: address.target.copy(alloc)?,
-    };
-    let origin_id = match origin {
-        Some(text) => Some(text.copy(alloc)?),
-        None => None,
-    };
-    let diagnostics = show_all(alloc, list)?;
-    Ok(PublishDiagnosticsParams {
-        text_document,
-        build_target,
-        origin_id,
-        diagnostics,
-        reset,
-    })
+    let count = whole.list.as_slice().len();
+    let whole = Arc::new(alloc, whole)?;
+    let mut pieces = Vec::new(alloc);
+    pieces.push(Piece::new(&whole, 0)?)?;
+    let mut left = count - PIECE_LIMIT.min(count);
+    'pieces: while left > 0 {
+        pieces.push(Piece::new(&whole, count - left)?)?;
+        left -= PIECE_LIMIT.min(left);
+    }
+    Ok(pieces)
 }

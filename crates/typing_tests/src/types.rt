@@ -1,3 +1,4 @@
+use indexmap::IndexMap;
 use ob_text::{Items, Name, NoMemory};
 use oberon_types::{
     Entity, Exports, Field, Origin, Param, RecordTy, Signature, Ty, Value, View, array_type,
@@ -132,14 +133,14 @@ fn copies(rt: HostRuntime) -> Result<(), Fail> {
             .all(|param| param.by_var && same_type(&param.ty, &Ty::Str(2)))
     );
     assert!(rt; copy.result_type.is_some_and(|ty| same_type(&ty, &Ty::Set)));
-    let mut entities = Vec::new(alloc);
-    for entity in [
-        Entity::Constant(Value::Integer(7)),
-        Entity::TypeName(Ty::Byte),
-        Entity::Variable(Ty::Byte),
-        Entity::Proc(signature),
+    let mut entities = IndexMap::new(alloc);
+    for (name, entity) in [
+        (b"c", Entity::Constant(Value::Integer(7))),
+        (b"p", Entity::Proc(signature)),
+        (b"t", Entity::TypeName(Ty::Byte)),
+        (b"v", Entity::Variable(Ty::Byte)),
     ] {
-        entities.push((Name::new(alloc, b"e")?, entity.copy(alloc)?))?;
+        entities.insert(Name::new(alloc, name)?, entity.copy(alloc)?)?;
     }
     let view = View::Exports(Arc::new(alloc, Exports { entities })?);
     assert!(rt; matches!(&view.copy()?, View::Exports(exports) if exports.entities.len() == 4));

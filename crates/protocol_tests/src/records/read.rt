@@ -5,7 +5,7 @@ use bsp_records::{
     read_sources_params, read_test_params,
 };
 use ob_text::Text;
-use serde_json::{Value, json};
+use serde_json::Value;
 use std::alloc::Global;
 use std::test::Fail;
 
@@ -128,14 +128,16 @@ fn refuses_at_the_first_bad_field(rt: HostRuntime) -> Result<(), Fail> {
 /// Params whose string is so long.
 fn with_origin(alloc: Global, count: usize) -> Result<Value, Fail> {
     let text = repeated(alloc, count)?;
-    Ok(json!(in alloc; {"targets": [], "originId": text})?)
+    let params = format!(in alloc; "{{\"targets\":[],\"originId\":\"{text}\"}}")?;
+    parsed(alloc, params.as_str())
 }
 
 fn with_root(alloc: Global, count: usize) -> Result<Value, Fail> {
     let text = repeated(alloc, count)?;
-    Ok(
-        json!(in alloc; {"displayName": "", "version": "", "bspVersion": "", "rootUri": text, "capabilities": null})?,
-    )
+    let params = format!(in alloc;
+        "{{\"displayName\":\"\",\"version\":\"\",\"bspVersion\":\"\",\"rootUri\":\"{text}\",\"capabilities\":null}}"
+    )?;
+    parsed(alloc, params.as_str())
 }
 
 fn repeated(alloc: Global, count: usize) -> Result<String, Fail> {

@@ -1,5 +1,5 @@
-use Rattle.std.specs.Option.{option_map, option_copied}
-use Rattle.std.proofs.Common.{ap, sym, ◌∙◌, Option}
+use Rattle.std.specs.Option.{option_map}
+use Rattle.std.proofs.Common.{ap, ◌∙◌, Option}
 use Rattle.oberon_types.specs.declared.entity.Entity.{Entity}
 use Rattle.oberon_types.specs.Memory.{plain_entity}
 use Rattle.oberon_infer.proofs.ScopeMemory.{exported_is, copied_is}

@@ -1,18 +1,22 @@
-use Rattle.std.proofs.Common.{map, subst}
+use Rattle.std.proofs.Common.{◌∙◌, List, map, ap, subst, sym}
 use Rattle.std.specs.List.{All}
-use Rattle.bsp_records.specs.Short.{IsShortRecord}
+use Rattle.ob_text.specs.declared.diagnostic.Diagnostic.{Diagnostic}
 use Rattle.bsp_records.specs.Shown.{shown}
-use Rattle.task_stream.proofs.PieceLaws.{pieces_make, pieces_few, pieces_short}
+use Rattle.task_stream.specs.Pieces.{pieces}
+use Rattle.task_stream.specs.Waiting.{IsShortDiagnostic}
+use Rattle.task_stream.proofs.PieceLaws.{pieces_make, pieces_few, pieces_short, records_short}
 use Rattle.task_stream.proofs.shown.Shown.publish.Goals as goal
 
 pub returns-clause-client : goal.returns-clause-client
 returns-clause-client c =
-    pieces_make c.in_ok-publications.publications.items c.args.self.now c.args.address.now (map shown c.args.list.now) c.args.origin.now c.in_ok-publications.ensures.pieces
+    let same = c.in_ok-list.ensures.ok ∙ c.fitted.ensures.same in
+    pieces_make c.in_ok-pieces.pieces.items c.args.self.now c.args.address.now (map shown c.args.list.items) c.args.origin.now.value
+    (c.in_ok-pieces.ensures ∙ ap (λ (l : List Diagnostic). pieces c.args.address.now c.args.origin.now.value (map shown l)) same)
 
 pub returns-clause-few : goal.returns-clause-few
-returns-clause-few c = pieces_few c.in_ok-publications.publications.items c.args.address.now c.args.origin.now (map shown c.args.list.now) c.in_ok-publications.ensures.pieces
+returns-clause-few c = pieces_few c.in_ok-pieces.pieces.items c.args.address.now c.args.origin.now.value (map shown c.in_ok-list.list.value) c.in_ok-pieces.ensures
 
 pub returns-clause-short : goal.returns-clause-short
 returns-clause-short c =
-    pieces_short c.in_ok-publications.publications.items c.args.address.now c.args.origin.now (map shown c.args.list.now) c.in_ok-publications.ensures.pieces
-    (subst (All IsShortRecord) c.in_ok-records.ensures.shown c.in_ok-records.ensures.short)
+    let short = subst (All IsShortDiagnostic) (sym c.in_ok-list.ensures.ok) c.fitted.ensures.short in
+    pieces_short c.in_ok-pieces.pieces.items c.args.address.now c.args.origin.now.value (map shown c.in_ok-list.list.value) c.in_ok-pieces.ensures (records_short c.in_ok-list.list.value short)

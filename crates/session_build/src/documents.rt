@@ -1,0 +1,97 @@
+ghost use Rattle.std.specs.Prelude.{◌≡◌, ◌≢◌, ◌==◌, ◌<◌, ℕ, List, Option, length, map, nat_eq, not, Some, IfOk};
+ghost use Rattle.std.specs.List.{All, AllPairs, list_any, slice_get};
+ghost use Rattle.std.specs.Str.{bytes_eq};
+ghost use Rattle.indexmap.specs.IndexSet.{contains};
+ghost use Rattle.session_law.specs.Builds.{AreDocuments, build_document};
+ghost use Rattle.ob_text.specs.Once.{each_once, once_more};
+ghost use Rattle.session_build.specs.Documents.{HasPlainAddress, build_of};
+ghost use Rattle.target_graph.specs.Workspace.{pairs_of};
+ghost use Rattle.target_graph.specs.declared.target.Pair.{Pair};
+
+use indexmap::IndexSet;
+use ob_text::{Items, NoMemory, Path};
+use session_law::BuildDocument;
+use std::alloc::Global;
+use target_graph::Workspace;
+use task_stream::Address;
+
+/// The documents of some targets and of all that they depend on, in the order of the workspace file.
+pub fn documents_of(
+    alloc: Global,
+    workspace: &Workspace,
+    asked: &[u32],
+) -> Result<Items<BuildDocument>, NoMemory>
+    requires { All (λ target. target < length workspace.now.targets) asked.now }
+    ensures documents { IfOk result (λ documents. (origin : Option (List ℕ))
+        → AreDocuments (build_of workspace.now asked.now origin) documents) }
+    ensures plain { IfOk result (All HasPlainAddress) }
+    // No two stand at one address.
+    ensures distinct { IfOk result (λ documents. AllPairs ◌≢◌ (map (λ document. document.address) documents)) }
+{
+    let targets = workspace.closure(asked)?;
+    let closure = set_of(alloc, targets.as_slice())?;
+    let mut documents = Vec::new(alloc);
+    for pair in 0..workspace.pairs().len() {
+        let target = workspace.pairs()[pair].target;
+        if closure.contains(&target) {
+            documents.push(document_of_pair(alloc, workspace, pair as u32)?)?;
+        }
+    }
+    Ok(Items::from_vec(documents))
+}
+
+/// The numbers as a set.
+fn set_of(alloc: Global, numbers: &[u32]) -> Result<IndexSet<u32>, NoMemory>
+    ensures { IfOk result (λ set. (n : ℕ) → contains nat_eq set n
+        ≡ list_any (λ number. number == n) numbers.now) }
+{
+    let mut set = IndexSet::new(alloc);
+    for number in numbers {
+        set.insert(*number)?;
+    }
+    Ok(set)
+}
+
+/// A pair's document in its target.
+fn document_of_pair(
+    alloc: Global,
+    workspace: &Workspace,
+    pair: u32,
+) -> Result<BuildDocument, NoMemory>
+    requires { pair < length (pairs_of workspace.now.targets) }
+    ensures document { IfOk result (λ document. (at : Pair) → slice_get (pairs_of
+        workspace.now.targets) pair ≡ Some at → document ≡ build_document workspace.now at) }
+    ensures plain { IfOk result HasPlainAddress }
+{
+    let at = &workspace.pairs()[pair as usize];
+    let path = at.path.copy(alloc)?;
+    let document = workspace.document_of(pair)?;
+    let target = workspace.target_id(at.target)?;
+    Ok(BuildDocument {
+        path,
+        address: Address { document, target },
+    })
+}
+
+/// The paths of some documents, each once, in the order in which they come first.
+pub fn paths_of(alloc: Global, documents: &[BuildDocument]) -> Result<Items<Path>, NoMemory>
+    ensures { IfOk result (λ paths. paths ≡ each_once bytes_eq (map (λ document. document.path) documents.now)) }
+{
+    let mut seen = IndexSet::new(alloc);
+    let mut paths = Vec::new(alloc);
+    for document in documents {
+        if see(alloc, &mut seen, &document.path)? {
+            paths.push(document.path.copy(alloc)?)?;
+        }
+    }
+    Ok(Items::from_vec(paths))
+}
+
+/// Puts a path behind the others, and tells whether it is new.
+fn see(alloc: Global, seen: &mut IndexSet<Path>, path: &Path) -> Result<bool, NoMemory>
+    ensures new { IfOk result (λ new. new ≡ not (list_any (bytes_eq path.now) seen.old.keys)) }
+    ensures keys { IfOk result (λ new. seen.new.keys ≡ once_more bytes_eq seen.old.keys path.now) }
+{
+    let (_, new) = seen.insert_full(path.copy(alloc)?)?;
+    Ok(new)
+}
