@@ -5,6 +5,8 @@
 #[cfg(test)]
 mod diagnostics;
 #[cfg(test)]
+mod importing;
+#[cfg(test)]
 mod shown;
 #[cfg(test)]
 mod texts;

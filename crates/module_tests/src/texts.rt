@@ -8,10 +8,20 @@ use std::test::Fail;
 
 /// What a check of a text of the module A finds, with a view of each of the modules.
 pub fn checked(alloc: Global, text: &str, views: &IndexMap<Name, View>) -> Result<Checked, Fail> {
+    checked_as(alloc, "A", text, views)
+}
+
+/// The same of a module of another name.
+pub fn checked_as(
+    alloc: Global,
+    name: &str,
+    text: &str,
+    views: &IndexMap<Name, View>,
+) -> Result<Checked, Fail> {
     if text.len() > 262_144 {
         return Err(Fail::from("too long"));
     }
-    let stem = Name::new(alloc, b"A".as_slice())?;
+    let stem = Name::new(alloc, name.as_bytes())?;
     let held = Held::Text(Text::new(alloc, text.as_bytes())?);
     Ok(check_module(alloc, &stem, &held, views)?)
 }
