@@ -1,7 +1,0 @@
-pub mod Checked
-pub mod Exported
-pub mod Numbers
-pub mod Rows
-pub mod Sweeps
-pub mod Views
-pub mod Written
