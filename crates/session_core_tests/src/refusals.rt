@@ -1,4 +1,5 @@
 use rpc_peer::{Id, Message};
+use session_build::Outgoing;
 use session_core::Core;
 use std::test::Fail;
 
@@ -9,7 +10,7 @@ fn refuses_a_shutdown_before_an_initialize(rt: HostRuntime) -> Result<(), Fail> 
     core.message(b"{\"jsonrpc\":\"2.0\",\"id\":4,\"method\":\"build/shutdown\"}")?;
     assert!(rt; !core.is_idle());
     match core.next_out() {
-        Some(Message::Response { id, answer }) => {
+        Some(Outgoing::Message(Message::Response { id, answer })) => {
             assert!(rt; id == Some(Id::Number(4)));
             match answer {
                 Ok(_) => panic!(rt; "a result"),
