@@ -17,6 +17,10 @@ pub true_unless : (b : Bool) → ((IsTrue b → ⊥) → ⊥) → IsTrue b
 true_unless true h = refl
 true_unless false h = absurd (h (λ e. cc))
 
+-- those that were given are all there
+pub inside : (d : Inside) → KnowsBytes d → d.start ≤ length d.bytes.items
+inside d kept = omega (arith, kept.half, length-drop d.start d.bytes.items)
+
 -- bytes behind those that were given
 pub appended : (start : ℕ) (old new piece : List ℕ) → start ≤ length old → new ≡ old ++ piece → drop start old ++ piece ≡ drop start new
 appended start old new piece inside e = sym (drop-append-le start old piece inside) ∙ ap (drop start) (sym e)
@@ -30,7 +34,7 @@ pub fed : (d : Inside) (reading : Reading) (marks : List Mark) (bytes piece : Li
     → ((from : ℕ) (waiting : List ℕ) → from + length waiting ≡ begun → Scanned from d.reading d.marks.items waiting → Scanned from reading marks (waiting ++ piece))
     → Fed d reading marks bytes piece
 fed d reading marks bytes piece begun kept e at scans =
-    let waiting = appended d.start d.bytes.items bytes piece kept.start e in
+    let waiting = appended d.start d.bytes.items bytes piece (inside d kept) e in
     record {
       waiting = waiting;
       scanned = subst (Scanned d.given_end reading marks) waiting (scans d.given_end (drop d.start d.bytes.items) (omega (arith, at, length-drop d.start d.bytes.items)) kept.scanned);

@@ -1,4 +1,4 @@
-ghost use Rattle.std.specs.Prelude.{◌≡◌, ℕ, ◌+◌, ◌<◌, ◌≤◌, ◌↔◌, List, [], ◌++◌, length, IsTrue, IfOk, IfErr, IfSome, IfNone, OnOk, OnErr, IsErrOf};
+ghost use Rattle.std.specs.Prelude.{◌≡◌, ℕ, ◌+◌, ◌<◌, ◌≤◌, ◌↔◌, List, [], ◌++◌, length, drop, IsTrue, IfOk, IfErr, IfSome, IfNone, OnOk, OnErr, IsErrOf};
 ghost use Rattle.rpc_frame.specs.declared.damage.Damage.{Damage};
 ghost use Rattle.rpc_frame.specs.Damages.{HasDamage, IfDamaged};
 ghost use Rattle.rpc_frame.specs.Frames.{BeginsWith, HasNoFrame, IsBorder, IsBroken, IsSound};
@@ -14,7 +14,8 @@ use std::collections::VecDeque;
 use std::marker::Model;
 
 /// Cuts a stream that comes in any pieces into the contents of its frames. Looks at each byte of a
-/// header once, and copies a content once.
+/// header once, and copies a content once. Of the bytes that it gave it keeps no more than it has still
+/// to give.
 #[derive(Debug, Drop)]
 pub struct Decoder {
     alloc: Global,
@@ -78,7 +79,6 @@ impl Decoder {
             → (IsErrOf result FeedFault.NoMemory → ⊥)
             → IsErrOf result (FeedFault.Damaged damage) }
     {
-        self.compact();
         let begun = self.given_end + (self.bytes.len() - self.start) as u64;
         let reading = append(&mut self.bytes, &mut self.marks, self.reading, begun, piece)?;
         self.reading = reading;
@@ -111,7 +111,7 @@ impl Decoder {
         let body = Vec::from_slice(self.alloc, content)?;
         let length = mark.header + mark.content;
         self.marks.pop_front();
-        self.start += length;
+        self.start = compact(&mut self.bytes, self.start + length);
         self.given_end += length as u64;
         Ok(Some(body))
     }
@@ -136,16 +136,20 @@ impl Decoder {
     {
         STREAM_LIMIT - self.given_end - (self.bytes.len() - self.start) as u64
     }
+}
 
-    /// Drops the bytes that were given, once they are more than the others.
-    fn compact(&mut self)
-        ensures { self.new ≡ self.old }
-    {
-        let left = self.bytes.len() - self.start;
-        if left < self.start {
-            self.bytes.copy_within(self.start.., 0);
-            self.bytes.truncate(left);
-            self.start = 0;
-        }
+/// Drops the bytes before this index once they are more than the others, and tells where the others
+/// begin. So a byte is moved no more often than one is dropped.
+fn compact(bytes: &mut Vec<u8>, start: usize) -> usize
+    requires { start ≤ length bytes.old.items }
+    ensures others { drop result bytes.new.items ≡ drop start bytes.old.items }
+    ensures half { result ≤ length (drop result bytes.new.items) }
+{
+    let left = bytes.len() - start;
+    if start <= left {
+        return start;
     }
+    bytes.copy_within(start.., 0);
+    bytes.truncate(left);
+    0
 }

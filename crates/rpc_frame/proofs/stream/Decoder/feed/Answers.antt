@@ -1,4 +1,4 @@
-use Rattle.std.proofs.Common.{drop, sym, ◌∙◌, subst, arith}
+use Rattle.std.proofs.Common.{drop, sym, subst, arith}
 use Rattle.rpc_frame.specs.declared.damage.Damage.{Damage}
 use Rattle.rpc_frame.specs.declared.reading.Reading.TheVariants.{Broken}
 use Rattle.rpc_frame.specs.Frames.{Waiting}
@@ -44,7 +44,7 @@ returns-in-Some-clause-exact c = λ damage has memory.
 pub returns-in-Some-clause-again : goal.returns-in-Some-clause-again
 returns-in-Some-clause-again c = λ damage had memory.
     let d = c.self.inside in
-    let before = subst (λ (w : Waiting). HasDamage w damage) (sym (c.self.view_is ∙ c.compact.ensures)) had in
+    let before = subst (λ (w : Waiting). HasDamage w damage) (sym c.self.view_is) had in
     let after = fed_damage d c.append.new.bytes.items c.args.piece.now damage (behind_piece c).waiting before in
     let same = one_damage _ c.in-Some.damage damage (scanned_damage d.given_end c.in-Some.damage c.append.new.marks.items _ (told c)) after in
     cc
@@ -60,5 +60,5 @@ returns-clause-exact c = λ damage has memory. absurd (none_told c damage has)
 
 pub returns-clause-again : goal.returns-clause-again
 returns-clause-again c = λ damage had memory.
-    let before = subst (λ (w : Waiting). HasDamage w damage) (sym (c.self.view_is ∙ c.compact.ensures)) had in
+    let before = subst (λ (w : Waiting). HasDamage w damage) (sym c.self.view_is) had in
     absurd (none_told c damage (fed_damage c.self.inside c.append.new.bytes.items c.args.piece.now damage (after_piece c).waiting before))

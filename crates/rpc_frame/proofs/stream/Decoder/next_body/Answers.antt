@@ -4,7 +4,7 @@ use Rattle.rpc_frame.specs.Frames.{BeginsWith, HasNoFrame}
 use Rattle.rpc_frame.specs.Partial.{Scanned}
 use Rattle.rpc_frame.proofs.FrameLaws.{begins_fewer}
 use Rattle.rpc_frame.proofs.ScanLaws.{first_mark}
-use Rattle.rpc_frame.proofs.KeptLaws.{none_left, NextFrame, next_frame}
+use Rattle.rpc_frame.proofs.KeptLaws.{inside, none_left, NextFrame, next_frame}
 use Rattle.rpc_frame.proofs.stream.Decoder.next_body.Goals as goal
 use Rattle.rpc_frame.proofs.stream.Decoder.next_body.Goals.{In-Some}
 
@@ -17,7 +17,7 @@ returns-in-None-clause-none c =
 given : (c : In-Some) → NextFrame c.self.inside.given_end c.self.inside.reading c.in-Some.mark.now (drop 1 c.self.inside.marks.items) c.self.inside.start c.self.inside.bytes.items
 given c =
     let d = c.self.inside in
-    next_frame d.given_end d.reading c.in-Some.mark.now (drop 1 d.marks.items) d.start d.bytes.items c.self.invariant.start
+    next_frame d.given_end d.reading c.in-Some.mark.now (drop 1 d.marks.items) d.start d.bytes.items (inside d c.self.invariant)
     (first_mark d.given_end d.reading c.in-Some.mark.now d.marks.items (drop d.start d.bytes.items) c.in-Some.ensures.item.3.0 c.in-Some.ensures.item.1 c.self.invariant.scanned)
 
 pub split_at-requires-3 : goal.split_at-requires-3
@@ -31,10 +31,12 @@ invariant_of-self c =
     let f = given (goal.at.invariant_of-self c).In-Some in
     let n = c.in-Some.mark.now.header + c.in-Some.mark.now.content in
     record {
-      start = f.fits;
-      bound = omega (arith, f.fits, c.self.invariant.bound, length-drop d.start d.bytes.items, length-drop (d.start + n) d.bytes.items);
+      half = c.compact-self-inside.ensures.half;
+      bound = omega (arith, f.fits, c.self.invariant.bound, length-drop d.start d.bytes.items, length-drop (d.start + n) d.bytes.items, ap length c.compact-self-inside.ensures.others);
       within = c.self.invariant.within;
-      scanned = subst (λ (ms : List Mark). Scanned (d.given_end + n) d.reading ms (drop (d.start + n) d.bytes.items)) (sym c.pop_front.ensures.rest) f.others;
+      scanned =
+          subst (λ (ms : List Mark). Scanned (d.given_end + n) d.reading ms (drop c.compact-self-inside.result c.compact-self-inside.new.bytes.items)) (sym c.pop_front.ensures.rest)
+          (subst (Scanned (d.given_end + n) d.reading (drop 1 d.marks.items)) (sym c.compact-self-inside.ensures.others) f.others);
     }
 
 pub returns-clause-some : goal.returns-clause-some
@@ -46,14 +48,15 @@ returns-clause-some c =
     let waiting : c.split_at.result.1.now ≡ drop d.start d.bytes.items = c.split_at.ensures.back ∙ ap (drop d.start) c.as_slice.ensures.value in
     let body : take mark.content (drop mark.header (drop d.start d.bytes.items)) ≡ c.in_ok-body.body.items =
     sym (c.in_ok-body.ensures.items ∙ c.split_at-3.ensures.front ∙ ap (take mark.content) (c.split_at-2.ensures.back ∙ ap (drop mark.header) waiting)) in
-    subst (λ b. BeginsWith b c.in_ok-body.body.items after) (ap (λ w. w.bytes) c.self.view_is)
-    (subst (λ t. BeginsWith (drop d.start d.bytes.items) t after) body f.begins)
+    subst (BeginsWith _ c.in_ok-body.body.items) (sym c.compact-self-inside.ensures.others)
+    (subst (λ b. BeginsWith b c.in_ok-body.body.items after) (ap (λ w. w.bytes) c.self.view_is)
+    (subst (λ t. BeginsWith (drop d.start d.bytes.items) t after) body f.begins))
 
 pub returns-clause-fewer : goal.returns-clause-fewer
 returns-clause-fewer c =
     let d = c.self.inside in
     let f = given (goal.at.returns-clause-fewer c).In-Some in
-    omega (arith, begins_fewer (drop d.start d.bytes.items) _ _ f.begins, ap (λ w. length w.bytes) c.self.view_is)
+    omega (arith, begins_fewer (drop d.start d.bytes.items) _ _ f.begins, ap (λ w. length w.bytes) c.self.view_is, ap length c.compact-self-inside.ensures.others)
 
 pub returns-clause-limit : goal.returns-clause-limit
 returns-clause-limit c =
