@@ -53,28 +53,28 @@ fn held_at(rt: HostRuntime, folder: &PathBuf, name: &str) -> Result<(&'static st
     }
 }
 
+/// A name, and what the folder holds there.
+const HELD: [(&str, &str, usize); 10] = [
+    ("A.Mod", "text", 16),
+    ("lib/B.Mod", "text", 0),
+    ("largest", "text", 262_144),
+    ("larger", "too large", 0),
+    ("bytes", "not text", 0),
+    ("C.Mod", "absent", 0),
+    ("A.Mod/D.Mod", "absent", 0),
+    ("none/E.Mod", "absent", 0),
+    ("lib", "failed", 0),
+    ("/dev/null", "failed", 0),
+];
+
 #[test]
 fn reads_a_folder(rt: HostRuntime) -> Result<(), Fail> {
     let folder = folder_name(&rt)?;
     make_folder(&rt, &folder)?;
-    for (name, want, size) in [
-        ("A.Mod", "text", 16),
-        ("lib/B.Mod", "text", 0),
-        ("largest", "text", 262_144),
-        ("larger", "too large", 0),
-        ("bytes", "not text", 0),
-        ("C.Mod", "absent", 0),
-        ("A.Mod/D.Mod", "absent", 0),
-        ("none/E.Mod", "absent", 0),
-        ("lib", "failed", 0),
-        ("/dev/null", "failed", 0),
-    ] {
-        let (got, bytes) = held_at(rt, &folder, name)?;
-        assert_eq!(rt; got, want, "{name}");
-        assert_eq!(rt; bytes, size, "{name}");
+    for (name, want, size) in HELD {
+        assert_eq!(rt; held_at(rt, &folder, name)?, (want, size), "{name}");
     }
     fs::remove_dir_all(&rt, folder.as_path())?;
-    let (got, _) = held_at(rt, &folder, "A.Mod")?;
-    assert_eq!(rt; got, "absent");
+    assert_eq!(rt; held_at(rt, &folder, "A.Mod")?, ("absent", 0));
     Ok(())
 }

@@ -26,6 +26,11 @@ fn takes_whole_pieces_within_its_room(rt: HostRuntime) -> Result<(), Fail> {
         assert_eq!(rt; write(&mut sink, piece), want);
     }
     assert_eq!(rt; sink.given(), b"abcde".as_slice());
+    Ok(())
+}
+
+#[test]
+fn takes_nothing_without_room(rt: HostRuntime) -> Result<(), Fail> {
     let mut full = MemSink::new(rt.alloc(), 0, Vec::new(rt.alloc()))?;
     assert_eq!(rt; write(&mut full, b"a"), Put::Failed);
     assert!(rt; full.given().is_empty());

@@ -79,10 +79,14 @@ fn polls_and_reads_standard_input(rt: HostRuntime) {
 }
 
 #[test]
-fn writes_to_each_stream(rt: HostRuntime) -> Result<(), Fail> {
+fn writes_to_each_stream(rt: HostRuntime) {
     assert_eq!(rt; write(&mut RealSink::output(rt), b"hello"), Put::Took(5));
     assert_eq!(rt; write(&mut RealSink::notes(rt), b"notes"), Put::Took(5));
     assert_eq!(rt; write(&mut RealSink::nothing(rt), b"lost!"), Put::Took(5));
+}
+
+#[test]
+fn writes_to_a_file(rt: HostRuntime) -> Result<(), Fail> {
     let mut sink = RealSink::file(rt, fs::create(&rt, "edge.test")?);
     assert_eq!(rt; write(&mut sink, b"first"), Put::Took(5));
     assert_eq!(rt; write(&mut sink, b"again"), Put::Took(5));
@@ -91,6 +95,11 @@ fn writes_to_each_stream(rt: HostRuntime) -> Result<(), Fail> {
         "firstagain"
     );
     fs::remove_file(&rt, "edge.test")?;
+    Ok(())
+}
+
+#[test]
+fn tells_where_a_file_is_for_reading(rt: HostRuntime) -> Result<(), Fail> {
     let mut closed = RealSink::file(rt, fs::File::open(&rt, "/dev/null")?);
     assert_eq!(rt; write(&mut closed, b"no!!!"), Put::Failed);
     Ok(())

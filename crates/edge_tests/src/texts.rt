@@ -1,22 +1,31 @@
-use ob_text::{Code, Held, Items, Name, Path, Severity, Snapshot, Text};
+use ob_text::{Code, Held, Items, Name, NoMemory, Path, Severity, Snapshot, Text};
+use std::alloc::Global;
 use std::collections::HashSet;
 use std::test::Fail;
 
 #[test]
 fn owns_and_gives_back(rt: HostRuntime) -> Result<(), Fail> {
-    let alloc = rt.alloc();
-    let path = Path::new(alloc, b"A.Mod")?;
+    let path = Path::new(rt.alloc(), b"A.Mod")?;
     assert_eq!(rt; path.as_slice(), b"A.Mod".as_slice());
-    assert_eq!(rt;
-        path.copy(alloc)?.into_vec().as_slice(),
-        b"A.Mod".as_slice()
-    );
-    assert!(rt; Text::new(alloc, b"a")? != Text::new(alloc, b"b")?);
-    assert!(rt; Text::new(alloc, b"ab")?.followed_by(b"c")? == Text::new(alloc, b"abc")?);
-    let mut names = HashSet::new(alloc);
-    names.insert(Name::new(alloc, b"app")?)?;
-    assert!(rt; names.contains(&Name::new(alloc, b"app")?));
-    assert!(rt; !names.contains(&Name::new(alloc, b"lib")?));
+    let copy = path.copy(rt.alloc())?;
+    assert_eq!(rt; copy.into_vec().as_slice(), b"A.Mod".as_slice());
+    Ok(())
+}
+
+#[test]
+fn compares_texts(rt: HostRuntime) -> Result<(), Fail> {
+    let text = Text::new(rt.alloc(), b"ab")?;
+    assert!(rt; text != Text::new(rt.alloc(), b"abc")?);
+    assert!(rt; text.followed_by(b"c")? == Text::new(rt.alloc(), b"abc")?);
+    Ok(())
+}
+
+#[test]
+fn finds_names_by_their_hash(rt: HostRuntime) -> Result<(), Fail> {
+    let mut names = HashSet::new(rt.alloc());
+    names.insert(Name::new(rt.alloc(), b"app")?)?;
+    assert!(rt; names.contains(&Name::new(rt.alloc(), b"app")?));
+    assert!(rt; !names.contains(&Name::new(rt.alloc(), b"lib")?));
     Ok(())
 }
 
@@ -44,20 +53,42 @@ fn holds_what_files_have(rt: HostRuntime) -> Result<(), Fail> {
     Ok(())
 }
 
+fn entry(alloc: Global, path: &str, held: &Held) -> Result<(Path, Held), NoMemory> {
+    let path = Path::new(alloc, path.as_bytes())?;
+    Ok((path, held.copy(alloc)?))
+}
+
+/// A snapshot in which a path stands twice.
+fn snapshot_of(alloc: Global, text: &Held) -> Result<Snapshot, NoMemory> {
+    let mut entries = Vec::new(alloc);
+    for (path, held) in [
+        ("A.Mod", text),
+        ("B.Mod", &Held::Absent),
+        ("A.Mod", &Held::TooLarge),
+    ] {
+        entries.push(entry(alloc, path, held)?)?;
+    }
+    Ok(Snapshot {
+        entries: Items::from_vec(entries),
+    })
+}
+
+/// Is this what a snapshot has of a path?
+fn gives(alloc: Global, snapshot: &Snapshot, path: &str, want: &Held) -> Result<bool, NoMemory> {
+    let path = Path::new(alloc, path.as_bytes())?;
+    match snapshot.get(&path) {
+        Some(held) => Ok(held == want),
+        None => Ok(false),
+    }
+}
+
 #[test]
 fn gives_what_was_held(rt: HostRuntime) -> Result<(), Fail> {
     let alloc = rt.alloc();
     let text = Held::Text(Text::new(alloc, b"MODULE A; END A.")?);
-    let copy = text.copy(alloc)?;
-    let mut entries = Vec::new(alloc);
-    entries.push((Path::new(alloc, b"A.Mod")?, text))?;
-    entries.push((Path::new(alloc, b"B.Mod")?, Held::Absent.copy(alloc)?))?;
-    entries.push((Path::new(alloc, b"A.Mod")?, Held::TooLarge))?;
-    let snapshot = Snapshot {
-        entries: Items::from_vec(entries),
-    };
-    assert!(rt; snapshot.get(&Path::new(alloc, b"A.Mod")?).ok_or("A.Mod")? == &copy);
-    assert!(rt; snapshot.get(&Path::new(alloc, b"B.Mod")?).ok_or("B.Mod")? == &Held::Absent);
+    let snapshot = snapshot_of(alloc, &text)?;
+    assert!(rt; gives(alloc, &snapshot, "A.Mod", &text)?);
+    assert!(rt; gives(alloc, &snapshot, "B.Mod", &Held::Absent)?);
     assert!(rt; snapshot.get(&Path::new(alloc, b"a.Mod")?).is_none());
     assert_eq!(rt; snapshot.entries.into_vec().len(), 3);
     Ok(())

@@ -50,6 +50,21 @@ fn hands_out(alloc: Global, tree: &mut MemTree, b: &str, a: &str) -> Result<bool
     }
 }
 
+/// Does a call hand out just this of one path?
+fn hands_out_of(
+    alloc: Global,
+    tree: &mut MemTree,
+    path: &[u8],
+    want: &Held,
+) -> Result<bool, TreeFault> {
+    let paths = [Path::new(alloc, path)?];
+    let snapshot = read_all(tree, &paths)?;
+    match snapshot.entries.as_slice() {
+        [entry] => Ok(entry.0 == paths[0] && entry.1 == *want),
+        _ => Ok(false),
+    }
+}
+
 #[test]
 fn changes_before_calls(rt: HostRuntime) -> Result<(), Fail> {
     let alloc = rt.alloc();
@@ -96,9 +111,7 @@ fn hands_out_documents_alone(rt: HostRuntime) -> Result<(), Fail> {
     let long = vec![in alloc; b'$'; 262_145]?;
     let changes: [(u64, &str, &[u8]); 2] = [(1, "A", b"\xFF"), (1, "B", long.as_slice())];
     let mut tree = tree_of(alloc, &changes, &[])?;
-    let paths = [Path::new(alloc, b"A")?, Path::new(alloc, b"B")?];
-    let snapshot = read_all(&mut tree, &paths)?;
-    assert!(rt; snapshot.get(&paths[0]).ok_or("A")? == &Held::NotText);
-    assert!(rt; snapshot.get(&paths[1]).ok_or("B")? == &Held::TooLarge);
+    assert!(rt; hands_out_of(alloc, &mut tree, b"A", &Held::NotText)?);
+    assert!(rt; hands_out_of(alloc, &mut tree, b"B", &Held::TooLarge)?);
     Ok(())
 }

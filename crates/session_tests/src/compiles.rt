@@ -1,9 +1,5 @@
-use crate::rows::{CLOSED, EXIT, INITIALIZE, INITIALIZED, SHUTDOWN, file, framed, joined, run};
-use bsp_cli::{Ended, Status};
-use bsp_edge::{MemSink, MemSource, MemTree};
-use ob_text::{Held, Items, Path, Snapshot, Text};
+use crate::runs::{Files, Parts, expect_answers, tree};
 use std::alloc::Global;
-use std::process::Abort;
 use std::test::Fail;
 
 pub const APP: &[u8] =
@@ -61,60 +57,6 @@ const UNKNOWN_TARGET: &[u8] =
 const UNREADABLE_2: &[u8] =
     b"{\"error\":{\"code\":-32603,\"message\":\"sources unreadable\"},\"id\":2,\"jsonrpc\":\"2.0\"}";
 
-pub type Files<'a> = &'a [(&'a [u8], &'a [u8])];
-
-/// A tree with these files, of which the second list is put in before the tree's call of that number.
-pub fn tree(
-    alloc: Global,
-    files: Files,
-    changes: &[(u64, &[u8], &[u8])],
-    failing: &[u64],
-) -> Result<MemTree, Fail> {
-    let mut entries = Vec::new(alloc);
-    for (path, text) in files {
-        entries.push(file(alloc, path, text)?)?;
-    }
-    let mut later = Vec::new(alloc);
-    for (call, path, text) in changes {
-        let (path, held) = file(alloc, path, text)?;
-        later.push((*call, path, held))?;
-    }
-    let files = Snapshot {
-        entries: Items::from_vec(entries),
-    };
-    Ok(MemTree::new(alloc, files, later, Vec::from_slice(alloc, failing)?))
-}
-
-/// Runs a session that is opened, sends these requests and is closed, and looks at what is answered
-/// between.
-pub fn expect(
-    rt: &(impl Abort + AllocGlobal),
-    tree: &mut MemTree,
-    requests: &[&[u8]],
-    answers: &[&[u8]],
-) -> Result<(), Fail> {
-    let alloc = rt.alloc();
-    let sent = framed(alloc, requests)?;
-    let session = joined(alloc, &[INITIALIZE, sent.as_slice(), SHUTDOWN, EXIT])?;
-    let answered = framed(alloc, answers)?;
-    let wanted = joined(alloc, &[INITIALIZED, answered.as_slice(), CLOSED])?;
-    let taken = session.len() as u64;
-    let (cuts, quiet, failing) = (Vec::new(alloc), Vec::new(alloc), Vec::new(alloc));
-    let mut input = MemSource::new(session, cuts, quiet, failing);
-    let mut output = MemSink::new(alloc, 65_536, Vec::new(alloc))?;
-    let mut notes = MemSink::new(alloc, 100, Vec::new(alloc))?;
-    let ended = run(alloc, &mut input, tree, &mut output, &mut notes)?;
-    assert_eq!(rt;
-        ended,
-        Ended {
-            status: Status::Closed,
-            taken
-        }
-    );
-    assert!(rt; output.given() == wanted.as_slice(), "other output");
-    Ok(())
-}
-
 const FILE_OF_APP: (&[u8], &[u8]) = (b"oberon-build.json", APP);
 
 const FILE_OF_BOTH: (&[u8], &[u8]) = (b"oberon-build.json", APP_ON_LIB);
@@ -125,8 +67,8 @@ type Case = (
     Files<'static>,
     &'static [(u64, &'static [u8], &'static [u8])],
     &'static [u64],
-    &'static [&'static [u8]],
-    &'static [&'static [u8]],
+    Parts<'static>,
+    Parts<'static>,
 );
 
 const CASES: [Case; 7] = [
@@ -190,7 +132,7 @@ fn compiles(rt: HostRuntime) -> Result<(), Fail> {
     let alloc = rt.alloc();
     for (files, changes, failing, requests, answers) in CASES {
         let mut tree = tree(alloc, files, changes, failing)?;
-        expect(&rt, &mut tree, requests, answers)?;
+        expect_answers(&rt, &mut tree, requests, answers)?;
     }
     Ok(())
 }
@@ -198,47 +140,62 @@ fn compiles(rt: HostRuntime) -> Result<(), Fail> {
 const PIECE_FRONT: &[u8] =
     b"{\"jsonrpc\":\"2.0\",\"method\":\"build/publishDiagnostics\",\"params\":{\"buildTarget\":{\"uri\":\"file:///w/?id=app\"},\"diagnostics\":[";
 
-const PIECE_BACK: &[u8] = b",\"textDocument\":{\"uri\":\"file:///w/A.Mod\"}}}";
+const PIECE_BACK_FIRST: &[u8] =
+    b"],\"reset\":true,\"textDocument\":{\"uri\":\"file:///w/A.Mod\"}}}";
+
+const PIECE_BACK: &[u8] = b"],\"reset\":false,\"textDocument\":{\"uri\":\"file:///w/A.Mod\"}}}";
+
+/// A bad character at this place.
+fn item(alloc: Global, start: u64) -> Result<String, Fail> {
+    Ok(format!(in alloc;
+        "{{\"code\":\"badCharacter\",\"message\":\"bad character\",\"range\":{{\"end\":{{\"character\":{},\"line\":0}},\"start\":{{\"character\":{},\"line\":0}}}},\"severity\":1,\"source\":\"oberon\"}}",
+        start + 1,
+        start
+    )?)
+}
 
 /// The publication of the bad characters of these numbers, which stand at every second place from 10 on.
-fn piece(alloc: Global, from: u32, to: u32, reset: bool) -> Result<Vec<u8>, Fail> {
+fn piece(alloc: Global, from: u32, to: u32, back: &[u8]) -> Result<Vec<u8>, Fail> {
     let mut bytes = Vec::from_slice(alloc, PIECE_FRONT)?;
     for number in from..to {
         if number > from {
             bytes.push(b',')?;
         }
-        let start = 10 + 2 * u64::from(number);
-        let item = format!(in alloc;
-            "{{\"code\":\"badCharacter\",\"message\":\"bad character\",\"range\":{{\"end\":{{\"character\":{},\"line\":0}},\"start\":{{\"character\":{},\"line\":0}}}},\"severity\":1,\"source\":\"oberon\"}}",
-            start + 1,
-            start
-        )?;
+        let item = item(alloc, 10 + 2 * u64::from(number))?;
         bytes.extend_from_slice(item.as_bytes())?;
     }
-    let flag = format!(in alloc; "],\"reset\":{}", reset)?;
-    bytes.extend_from_slice(flag.as_bytes())?;
-    bytes.extend_from_slice(PIECE_BACK)?;
+    bytes.extend_from_slice(back)?;
     Ok(bytes)
 }
 
-#[test]
-fn publishes_a_long_list_in_pieces(rt: HostRuntime) -> Result<(), Fail> {
-    let alloc = rt.alloc();
+/// A module with 250 bad characters.
+fn bad_characters(alloc: Global) -> Result<Vec<u8>, Fail> {
     let mut text = Vec::from_slice(alloc, b"MODULE A; ")?;
     for _ in 0..250 {
         text.extend_from_slice(b"$ ")?;
     }
     text.extend_from_slice(b"END A.")?;
-    let files: [(&[u8], &[u8]); 2] = [(b"oberon-build.json", APP), (b"A.Mod", text.as_slice())];
-    let mut tree = tree(alloc, &files, &[], &[])?;
-    let first = piece(alloc, 0, 100, true)?;
-    let second = piece(alloc, 100, 200, false)?;
-    let third = piece(alloc, 200, 250, false)?;
+    Ok(text)
+}
+
+/// What is published of it.
+fn pieces(alloc: Global) -> Result<[Vec<u8>; 3], Fail> {
+    let first = piece(alloc, 0, 100, PIECE_BACK_FIRST)?;
+    let second = piece(alloc, 100, 200, PIECE_BACK)?;
+    Ok([first, second, piece(alloc, 200, 250, PIECE_BACK)?])
+}
+
+#[test]
+fn publishes_a_long_list_in_pieces(rt: HostRuntime) -> Result<(), Fail> {
+    let text = bad_characters(rt.alloc())?;
+    let files: [(&[u8], &[u8]); 2] = [FILE_OF_APP, (b"A.Mod", text.as_slice())];
+    let mut tree = tree(rt.alloc(), &files, &[], &[])?;
+    let [first, second, third] = pieces(rt.alloc())?;
     let answers: [&[u8]; 4] = [
         first.as_slice(),
         second.as_slice(),
         third.as_slice(),
         FAILED_2,
     ];
-    expect(&rt, &mut tree, &[COMPILE_2], &answers)
+    expect_answers(&rt, &mut tree, &[COMPILE_2], &answers)
 }

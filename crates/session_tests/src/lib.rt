@@ -10,3 +10,5 @@ mod compiles;
 mod questions;
 #[cfg(test)]
 mod rows;
+#[cfg(test)]
+mod runs;

@@ -1,4 +1,5 @@
-use crate::compiles::{APP, Files, expect, tree};
+use crate::compiles::APP;
+use crate::runs::{Files, expect_answers, tree};
 use std::test::Fail;
 
 const THREE: &[u8] =
@@ -100,7 +101,7 @@ fn answers_questions(rt: HostRuntime) -> Result<(), Fail> {
     for (workspace, requests, answers) in CASES {
         let files: Files = &[(b"oberon-build.json", workspace)];
         let mut tree = tree(alloc, files, &[], &[])?;
-        expect(&rt, &mut tree, requests, answers)?;
+        expect_answers(&rt, &mut tree, requests, answers)?;
     }
     Ok(())
 }

@@ -1,0 +1,233 @@
+use bsp_cli::{Ended, read_words, run_words};
+use bsp_edge::{MemSink, MemSource, MemTree, Sink, Source, Tree};
+use ob_text::{Held, Items, Path, Snapshot, Text};
+use std::alloc::Global;
+use std::process::Abort;
+use std::test::Fail;
+
+pub const INITIALIZE: &[u8] =
+    b"Content-Length: 180\r\n\r\n{\"jsonrpc\":\"2.0\",\"id\":1,\"method\":\"build/initialize\",\"params\":{\"displayName\":\"t\",\"version\":\"1\",\"bspVersion\":\"2.2.0\",\"rootUri\":\"file:///w\",\"capabilities\":{\"languageIds\":[\"oberon\"]}}}";
+
+pub const SHUTDOWN: &[u8] =
+    b"Content-Length: 50\r\n\r\n{\"jsonrpc\":\"2.0\",\"id\":2,\"method\":\"build/shutdown\"}";
+
+pub const EXIT: &[u8] =
+    b"Content-Length: 39\r\n\r\n{\"jsonrpc\":\"2.0\",\"method\":\"build/exit\"}";
+
+pub const INITIALIZED: &[u8] =
+    b"Content-Length: 327\r\n\r\n{\"id\":1,\"jsonrpc\":\"2.0\",\"result\":{\"bspVersion\":\"2.2.0\",\"capabilities\":{\"buildTargetChangedProvider\":true,\"canReload\":true,\"compileProvider\":{\"languageIds\":[\"oberon\"]},\"inverseSourcesProvider\":true,\"runProvider\":{\"languageIds\":[\"oberon\"]},\"testProvider\":{\"languageIds\":[\"oberon\"]}},\"displayName\":\"oberon-bsp\",\"version\":\"1.0.0\"}}";
+
+pub const CLOSED: &[u8] =
+    b"Content-Length: 38\r\n\r\n{\"id\":2,\"jsonrpc\":\"2.0\",\"result\":null}";
+
+pub const WORKSPACE: &[u8] = b"{\"version\":1,\"targets\":[]}";
+
+pub type Parts<'a> = &'a [&'a [u8]];
+
+pub type Files<'a> = &'a [(&'a [u8], &'a [u8])];
+
+/// The files of a workspace without targets.
+pub const WORKSPACE_ALONE: Files<'static> = &[(b"oberon-build.json", WORKSPACE)];
+
+/// The ordinals of the calls that fail.
+#[derive(Clone, Copy)]
+pub struct Fails {
+    pub input: &'static [u64],
+    pub output: &'static [u64],
+    pub notes: &'static [u64],
+}
+
+pub const NOTHING_FAILS: Fails = Fails {
+    input: &[],
+    output: &[],
+    notes: &[],
+};
+
+/// A run of `serve`: the parts of its input, where that is cut and what fails, and what the run must leave.
+#[derive(Clone, Copy)]
+pub struct Row<'a> {
+    pub sent: Parts<'a>,
+    pub cuts: &'a [u64],
+    pub fails: Fails,
+    pub status: u8,
+    pub taken: u64,
+    pub output: Parts<'a>,
+    pub notes: &'a [u8],
+}
+
+/// A row whose input is in one piece, where nothing fails and nothing is noted.
+pub fn plain<'a>(sent: Parts<'a>, status: u8, taken: u64, output: Parts<'a>) -> Row<'a> {
+    Row {
+        sent,
+        cuts: &[],
+        fails: NOTHING_FAILS,
+        status,
+        taken,
+        output,
+        notes: b"",
+    }
+}
+
+/// What a run left: how it ended, and its sinks.
+#[derive(Drop)]
+pub struct Left {
+    pub ended: Ended,
+    pub output: MemSink,
+    pub notes: MemSink,
+}
+
+pub fn joined(alloc: Global, parts: Parts) -> Result<Vec<u8>, Fail> {
+    let mut bytes = Vec::new(alloc);
+    for part in parts {
+        bytes.extend_from_slice(part)?;
+    }
+    Ok(bytes)
+}
+
+/// Are these bytes those of the parts, one after the other?
+fn is_joined(bytes: &[u8], parts: Parts) -> bool {
+    let mut rest = bytes;
+    for part in parts {
+        match rest.strip_prefix(*part) {
+            Some(behind) => rest = behind,
+            None => return false,
+        }
+    }
+    rest.is_empty()
+}
+
+/// The frames of these bodies.
+pub fn framed(alloc: Global, bodies: Parts) -> Result<Vec<u8>, Fail> {
+    let mut bytes = Vec::new(alloc);
+    for body in bodies {
+        add_frame(alloc, body, &mut bytes)?;
+    }
+    Ok(bytes)
+}
+
+fn add_frame(alloc: Global, body: &[u8], bytes: &mut Vec<u8>) -> Result<(), Fail> {
+    let head = format!(in alloc; "Content-Length: {}\r\n\r\n", body.len())?;
+    bytes.extend_from_slice(head.as_bytes())?;
+    bytes.extend_from_slice(body)?;
+    Ok(())
+}
+
+pub fn file(alloc: Global, path: &[u8], text: &[u8]) -> Result<(Path, Held), Fail> {
+    let path = Path::new(alloc, path)?;
+    Ok((path, Held::Text(Text::new(alloc, text)?)))
+}
+
+fn snapshot(alloc: Global, files: Files) -> Result<Snapshot, Fail> {
+    let mut entries = Vec::new(alloc);
+    for (path, text) in files {
+        entries.push(file(alloc, path, text)?)?;
+    }
+    Ok(Snapshot {
+        entries: Items::from_vec(entries),
+    })
+}
+
+fn changed(alloc: Global, changes: &[(u64, &[u8], &[u8])]) -> Result<Vec<(u64, Path, Held)>, Fail> {
+    let mut later = Vec::new(alloc);
+    for (call, path, text) in changes {
+        let (path, held) = file(alloc, path, text)?;
+        later.push((*call, path, held))?;
+    }
+    Ok(later)
+}
+
+/// A tree with these files, of which the second list is put in before the tree's call of that number.
+pub fn tree(
+    alloc: Global,
+    files: Files,
+    changes: &[(u64, &[u8], &[u8])],
+    failing: &[u64],
+) -> Result<MemTree, Fail> {
+    let files = snapshot(alloc, files)?;
+    let later = changed(alloc, changes)?;
+    Ok(MemTree::new(alloc, files, later, Vec::from_slice(alloc, failing)?))
+}
+
+/// A source of these bytes in pieces.
+fn source(alloc: Global, bytes: Vec<u8>, cuts: &[u64], failing: &[u64]) -> Result<MemSource, Fail> {
+    let cuts = Vec::from_slice(alloc, cuts)?;
+    let failing = Vec::from_slice(alloc, failing)?;
+    Ok(MemSource::new(bytes, cuts, Vec::new(alloc), failing))
+}
+
+fn sink(alloc: Global, failing: &[u64]) -> Result<MemSink, Fail> {
+    let failing = Vec::from_slice(alloc, failing)?;
+    Ok(MemSink::new(alloc, 65_536, failing)?)
+}
+
+fn serve<S: Source, T: Tree, K: Sink>(
+    alloc: Global,
+    input: &mut S,
+    tree: &mut T,
+    output: &mut K,
+    notes: &mut K,
+) -> Result<Ended, Fail> {
+    let mut words = Vec::new(alloc);
+    words.push(Text::new(alloc, b"serve")?)?;
+    words.push(Text::new(alloc, b"w")?)?;
+    let asked = read_words(words.as_slice());
+    Ok(run_words(alloc, asked, input, tree, output, notes))
+}
+
+fn run_from(
+    alloc: Global,
+    input: &mut MemSource,
+    tree: &mut MemTree,
+    fails: Fails,
+) -> Result<Left, Fail> {
+    let mut output = sink(alloc, fails.output)?;
+    let mut notes = sink(alloc, fails.notes)?;
+    let ended = serve(alloc, input, tree, &mut output, &mut notes)?;
+    Ok(Left {
+        ended,
+        output,
+        notes,
+    })
+}
+
+fn run(alloc: Global, row: &Row, tree: &mut MemTree) -> Result<Left, Fail> {
+    let bytes = joined(alloc, row.sent)?;
+    let mut input = source(alloc, bytes, row.cuts, row.fails.input)?;
+    run_from(alloc, &mut input, tree, row.fails)
+}
+
+/// Runs a row over a tree, and looks at what it leaves.
+pub fn expect_over(
+    rt: &(impl Abort + AllocGlobal),
+    row: &Row,
+    tree: &mut MemTree,
+) -> Result<(), Fail> {
+    let left = run(rt.alloc(), row, tree)?;
+    assert_eq!(rt; left.ended.status.code(), row.status);
+    assert_eq!(rt; left.ended.taken, row.taken);
+    assert!(rt; is_joined(left.output.given(), row.output), "other output");
+    assert!(rt; left.notes.given() == row.notes, "other notes");
+    Ok(())
+}
+
+/// The same over a workspace without targets.
+pub fn expect(rt: &(impl Abort + AllocGlobal), row: &Row) -> Result<(), Fail> {
+    let mut tree = tree(rt.alloc(), WORKSPACE_ALONE, &[], &[])?;
+    expect_over(rt, row, &mut tree)
+}
+
+/// Runs a session over a tree that is opened, sends these requests and is closed, and looks at what is answered
+/// between.
+pub fn expect_answers(
+    rt: &(impl Abort + AllocGlobal),
+    tree: &mut MemTree,
+    requests: Parts,
+    answers: Parts,
+) -> Result<(), Fail> {
+    let sent = framed(rt.alloc(), requests)?;
+    let answered = framed(rt.alloc(), answers)?;
+    let sent = [INITIALIZE, sent.as_slice(), SHUTDOWN, EXIT];
+    let output = [INITIALIZED, answered.as_slice(), CLOSED];
+    let taken = 336 + sent[1].len() as u64;
+    expect_over(rt, &plain(&sent, 0, taken, &output), tree)
+}
