@@ -153,38 +153,53 @@ fn refuses_what_is_no_message(rt: HostRuntime) -> Result<(), Fail> {
     Ok(())
 }
 
-/// A front, and then so many times `more` and so many times `close`.
+fn add(body: &mut Vec<u8>, part: &[u8], count: u32) -> Result<(), Fail> {
+    for _ in 0..count {
+        body.extend_from_slice(part)?;
+    }
+    Ok(())
+}
+
+/// A front, and then so many times `more`, so many times `close`, and an end.
 fn grown(
     alloc: Global,
-    front: &[u8],
-    more: &[u8],
-    close: &[u8],
+    (front, more, close, end): (&[u8], &[u8], &[u8], &[u8]),
     count: u32,
-) -> Result<Text, NoMemory> {
-    let mut body = Text::new(alloc, front)?;
-    for _ in 0..count {
-        body = body.followed_by(more)?;
-    }
-    for _ in 0..count {
-        body = body.followed_by(close)?;
-    }
+) -> Result<Vec<u8>, Fail> {
+    let mut body = Vec::from_slice(alloc, front)?;
+    add(&mut body, more, count)?;
+    add(&mut body, close, count)?;
+    add(&mut body, end, 1)?;
     Ok(body)
 }
 
+const NAMED: (&[u8], &[u8], &[u8], &[u8]) = (
+    br#"{"jsonrpc":"2.0","method":"x","id":""#,
+    b"a",
+    b"",
+    b"\"}",
+);
+
+const NESTED: (&[u8], &[u8], &[u8], &[u8]) = (
+    br#"{"jsonrpc":"2.0","method":"x","params":"#,
+    b"[",
+    b"]",
+    b"}",
+);
+
+/// The parts of a body, how often they stand in it, and its code. A body counts as a level too.
+const GROWN: [((&[u8], &[u8], &[u8], &[u8]), u32, i32); 4] = [
+    (NAMED, 1_024, 0),
+    (NAMED, 1_025, -32600),
+    (NESTED, 126, 0),
+    (NESTED, 127, -32700),
+];
+
 #[test]
 fn limits_ids_and_nesting(rt: HostRuntime) -> Result<(), Fail> {
-    let alloc = rt.alloc();
-    let named = br#"{"jsonrpc":"2.0","method":"x","id":""#;
-    let nested = br#"{"jsonrpc":"2.0","method":"x","params":"#;
-    // A body counts as a level too.
-    for (length, named_code, depth, nested_code) in [
-        (1_024, 0, 126, 0),
-        (1_025, -32600, 127, -32700),
-    ] {
-        let body = grown(alloc, named, b"a", b"", length)?.followed_by(b"\"}")?;
-        assert_eq!(rt; code_of(alloc, body.as_slice())?, named_code, "{length}");
-        let body = grown(alloc, nested, b"[", b"]", depth)?.followed_by(b"}")?;
-        assert_eq!(rt; code_of(alloc, body.as_slice())?, nested_code, "{depth}");
+    for (parts, count, code) in GROWN {
+        let body = grown(rt.alloc(), parts, count)?;
+        assert_eq!(rt; code_of(rt.alloc(), body.as_slice())?, code, "{count}");
     }
     Ok(())
 }
@@ -250,18 +265,20 @@ fn called(open: &mut OpenIds, call: Call, id: Id) -> Result<bool, NoMemory> {
     }
 }
 
+/// Is this the first of the open ids?
+fn is_first(alloc: Global, open: &OpenIds, number: u32) -> Result<bool, NoMemory> {
+    let id = id_of(alloc, number)?;
+    Ok(open.first() == Some(&id))
+}
+
 #[test]
 fn keeps_open_ids_in_order(rt: HostRuntime) -> Result<(), Fail> {
-    let alloc = rt.alloc();
-    let mut open = OpenIds::new(alloc)?;
+    let mut open = OpenIds::new(rt.alloc())?;
     assert!(rt; open.first().is_none());
     for (call, number, want, first) in CALLS {
-        let id = id_of(alloc, number)?.copy(alloc)?;
+        let id = id_of(rt.alloc(), number)?;
         assert_eq!(rt; called(&mut open, call, id)?, want, "{call:?} {number}");
-        assert!(rt;
-            open.first() == Some(&id_of(alloc, first)?),
-            "{call:?} {number}"
-        );
+        assert!(rt; is_first(rt.alloc(), &open, first)?, "{call:?} {number}");
     }
     Ok(())
 }

@@ -2,7 +2,7 @@ ghost use Rattle.std.specs.Prelude.{IfOk, IfSome};
 ghost use Rattle.std.specs.List.{All};
 ghost use Rattle.std.specs.Str.{IsUtf8};
 ghost use Rattle.bsp_records.specs.Params.{IsTarget};
-ghost use Rattle.bsp_records.specs.Results.{HasBuildTargetTexts};
+ghost use Rattle.bsp_records.specs.Results.{HasBuildTargetTexts, HasSourceTexts, HasSourcesTexts};
 ghost use Rattle.bsp_records.specs.Tasks.{HasTaskIdTexts, HasStartBodyTexts, HasFinishBodyTexts};
 
 use super::{is_printed, one, owned};
@@ -65,18 +65,29 @@ fn prints_targets(alloc: Global, want: &str) -> Result<bool, Fail> {
     is_printed(alloc, &write_build_targets_result(alloc, &answer)?, want)
 }
 
-fn prints_sources(alloc: Global, want: &str) -> Result<bool, Fail> {
-    let source = SourceItem {
+fn source(alloc: Global) -> Result<SourceItem, NoMemory>
+    ensures { IfOk result HasSourceTexts }
+{
+    Ok(SourceItem {
         uri: owned(alloc, "file:///w/A.Mod")?,
         kind: SourceItemKind::File,
         generated: false,
-    };
-    let item = SourcesItem {
+    })
+}
+
+fn sources(alloc: Global) -> Result<SourcesItem, NoMemory>
+    ensures { IfOk result HasSourcesTexts }
+{
+    let sources = one(alloc, source(alloc)?)?;
+    Ok(SourcesItem {
         target: app(alloc)?,
-        sources: one(alloc, source)?,
-    };
+        sources,
+    })
+}
+
+fn prints_sources(alloc: Global, want: &str) -> Result<bool, Fail> {
     let answer = SourcesResult {
-        items: one(alloc, item)?,
+        items: one(alloc, sources(alloc)?)?,
     };
     is_printed(alloc, &write_sources_result(alloc, &answer)?, want)
 }
@@ -174,37 +185,49 @@ fn prints_first_start(alloc: Global, want: &str) -> Result<bool, Fail> {
     is_printed(alloc, &write_task_start_params(alloc, &params)?, want)
 }
 
+fn compile_started(alloc: Global) -> Result<TaskStartBody, NoMemory>
+    ensures { IfOk result HasStartBodyTexts }
+{
+    let target = app(alloc)?;
+    Ok(TaskStartBody::CompileTask(CompileTask { target }))
+}
+
+fn tests_started(alloc: Global) -> Result<TaskStartBody, NoMemory>
+    ensures { IfOk result HasStartBodyTexts }
+{
+    let target = app(alloc)?;
+    Ok(TaskStartBody::TestTask(TestTask { target }))
+}
+
+fn test_started(alloc: Global) -> Result<TaskStartBody, NoMemory>
+    ensures { IfOk result HasStartBodyTexts }
+{
+    let display_name = owned(alloc, "T.TestA")?;
+    Ok(TaskStartBody::TestStart(TestStart { display_name }))
+}
+
 #[test]
 fn tells_starts(rt: HostRuntime) -> Result<(), Fail> {
     let alloc = rt.alloc();
     assert!(rt; prints_first_start(alloc, "{\"message\":\"m\",\"taskId\":{\"id\":\"r2\"}}")?);
-    let body = TaskStartBody::CompileTask(CompileTask {
-        target: app(alloc)?,
-    });
     assert!(rt;
         prints_start(
             alloc,
-            body,
+            compile_started(alloc)?,
             "{\"data\":{\"target\":{\"uri\":\"file:///w/?id=app\"}},\"dataKind\":\"compile-task\",\"taskId\":{\"id\":\"r2.t1\",\"parents\":[\"r2\"]}}"
         )?
     );
-    let body = TaskStartBody::TestTask(TestTask {
-        target: app(alloc)?,
-    });
     assert!(rt;
         prints_start(
             alloc,
-            body,
+            tests_started(alloc)?,
             "{\"data\":{\"target\":{\"uri\":\"file:///w/?id=app\"}},\"dataKind\":\"test-task\",\"taskId\":{\"id\":\"r2.t1\",\"parents\":[\"r2\"]}}"
         )?
     );
-    let body = TaskStartBody::TestStart(TestStart {
-        display_name: owned(alloc, "T.TestA")?,
-    });
     assert!(rt;
         prints_start(
             alloc,
-            body,
+            test_started(alloc)?,
             "{\"data\":{\"displayName\":\"T.TestA\"},\"dataKind\":\"test-start\",\"taskId\":{\"id\":\"r2.t1\",\"parents\":[\"r2\"]}}"
         )?
     );
