@@ -61,13 +61,9 @@ fn entry(alloc: Global, path: &str, held: &Held) -> Result<(Path, Held), NoMemor
 /// A snapshot in which a path stands twice.
 fn snapshot_of(alloc: Global, text: &Held) -> Result<Snapshot, NoMemory> {
     let mut entries = Vec::new(alloc);
-    for (path, held) in [
-        ("A.Mod", text),
-        ("B.Mod", &Held::Absent),
-        ("A.Mod", &Held::TooLarge),
-    ] {
-        entries.push(entry(alloc, path, held)?)?;
-    }
+    entries.push(entry(alloc, "A.Mod", text)?)?;
+    entries.push(entry(alloc, "B.Mod", &Held::Absent)?)?;
+    entries.push(entry(alloc, "A.Mod", &Held::TooLarge)?)?;
     Ok(Snapshot {
         entries: Items::from_vec(entries),
     })

@@ -2,7 +2,7 @@
 use crate::texts::{listed, repeated};
 use ob_text::{Code, Diagnostic, Held, Text};
 use oberon_check::diagnose;
-use std::alloc::Global;
+use std::alloc::{AllocError, Global};
 use std::test::Fail;
 
 /// A text and its diagnostics, each its range and its code.
@@ -81,13 +81,17 @@ fn shows_each_fault(rt: HostRuntime) -> Result<(), Fail> {
 /// In how many parentheses a value stands, and what is said of it.
 const PARENTHESES: [(usize, &str); 2] = [(64, ""), (65, "0:85-0:86 badToken;")];
 
+fn in_parentheses(alloc: Global, count: usize) -> Result<String, AllocError> {
+    let front = repeated(alloc, "(", count)?;
+    let back = repeated(alloc, ")", count)?;
+    format!(in alloc; "MODULE A; BEGIN x := {front}1{back} END A.")
+}
+
 #[test]
 fn opens_sixty_four_levels(rt: HostRuntime) -> Result<(), Fail> {
     let alloc = rt.alloc();
     for (count, want) in PARENTHESES {
-        let front = repeated(alloc, "(", count)?;
-        let back = repeated(alloc, ")", count)?;
-        let text = format!(in alloc; "MODULE A; BEGIN x := {front}1{back} END A.")?;
+        let text = in_parentheses(alloc, count)?;
         assert_eq!(rt; shown(alloc, text.as_str())?.as_str(), want);
     }
     Ok(())

@@ -2,6 +2,7 @@
 use crate::texts::scanned;
 use oberon_imports::imports_of;
 use oberon_parse::parse;
+use oberon_tree::Tree;
 use std::alloc::Global;
 use std::test::Fail;
 
@@ -13,15 +14,18 @@ const IMPORTS: [(&str, &str); 4] = [
     ("IMPORT B := C, C := B;", "C;B;"),
 ];
 
-fn imported(alloc: Global, imports: &str) -> Result<String, Fail> {
+/// A copy of the tree of a module with these imports.
+fn copied(alloc: Global, imports: &str) -> Result<Tree, Fail> {
     let text = format!(in alloc; "MODULE A; {imports} END A.")?;
-    let Ok(tree) = parse(alloc, &scanned(alloc, text.as_str())?.tokens) else {
-        return Err(Fail::from("no module"));
-    };
-    let copy = tree.copy()?;
-    drop(tree);
+    match parse(alloc, &scanned(alloc, text.as_str())?.tokens) {
+        Ok(tree) => Ok(tree.copy()?),
+        Err(_) => Err(Fail::from("no module")),
+    }
+}
+
+fn imported(alloc: Global, tree: &Tree) -> Result<String, Fail> {
     let mut out = String::new(alloc);
-    for name in &imports_of(alloc, &copy)? {
+    for name in &imports_of(alloc, tree)? {
         out.push_str(String::from_utf8_lossy(alloc, name.as_slice())?.as_str())?;
         out.push_str(";")?;
     }
@@ -32,7 +36,8 @@ fn imported(alloc: Global, imports: &str) -> Result<String, Fail> {
 fn names_each_import_once(rt: HostRuntime) -> Result<(), Fail> {
     let alloc = rt.alloc();
     for (imports, want) in IMPORTS {
-        assert_eq!(rt; imported(alloc, imports)?.as_str(), want, "{imports}");
+        let tree = copied(alloc, imports)?;
+        assert_eq!(rt; imported(alloc, &tree)?.as_str(), want, "{imports}");
     }
     Ok(())
 }

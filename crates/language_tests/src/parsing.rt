@@ -336,15 +336,23 @@ fn nested(alloc: Global, nest: &Nest, count: usize) -> Result<String, AllocError
     format!(in alloc; "{front}{opened}{inner}{closed}{back}")
 }
 
+fn bad_in_nest(alloc: Global, nest: &Nest, count: usize) -> Result<Option<usize>, Fail> {
+    let text = nested(alloc, nest, count)?;
+    first_bad(alloc, text.as_str())
+}
+
 #[test]
 fn opens_sixty_four_levels(rt: HostRuntime) -> Result<(), Fail> {
     let alloc = rt.alloc();
     for nest in NESTS {
-        let text = nested(alloc, &nest, nest.most)?;
-        assert_eq!(rt; first_bad(alloc, text.as_str())?, None, "{}", nest.opening);
+        assert_eq!(rt;
+            bad_in_nest(alloc, &nest, nest.most)?,
+            None,
+            "{}",
+            nest.opening
+        );
         for count in [nest.most.saturating_add(1), 10_000] {
-            let text = nested(alloc, &nest, count)?;
-            let found = first_bad(alloc, text.as_str())?;
+            let found = bad_in_nest(alloc, &nest, count)?;
             assert_eq!(rt; found, Some(nest.place), "{}", nest.opening);
         }
     }

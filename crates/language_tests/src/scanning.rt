@@ -1,6 +1,7 @@
 //! `scan`: each kind of token and of fault, and large texts.
 use crate::texts::{listed, repeated, scanned};
-use oberon_scan::{Token, TokenKind};
+use ob_text::Diagnostic;
+use oberon_scan::{Scanned, Token, TokenKind};
 use std::alloc::{AllocError, Global};
 use std::test::Fail;
 
@@ -180,20 +181,32 @@ const LARGE: [(&str, (&str, usize), &str, (usize, usize), &str); 2] = [
     ),
 ];
 
+/// A text whose middle is a piece so many times in a row.
+fn large(
+    alloc: Global,
+    front: &str,
+    (piece, count): (&str, usize),
+    back: &str,
+) -> Result<Scanned, Fail> {
+    let middle = repeated(alloc, piece, count)?;
+    let text = format!(in alloc; "{front}{middle}{back}")?;
+    scanned(alloc, text.as_str())
+}
+
+/// The last of some faults.
+fn last_of(alloc: Global, faults: &[Diagnostic]) -> Result<String, AllocError> {
+    let before = faults.len().saturating_sub(1);
+    listed(alloc, faults.split_at(before).1)
+}
+
 #[test]
 fn sweeps_large_texts(rt: HostRuntime) -> Result<(), Fail> {
     let alloc = rt.alloc();
-    for (front, (piece, count), back, (tokens, faults), last) in LARGE {
-        let middle = repeated(alloc, piece, count)?;
-        let text = format!(in alloc; "{front}{middle}{back}")?;
-        let found = scanned(alloc, text.as_str())?;
+    for (front, middle, back, (tokens, faults), last) in LARGE {
+        let found = large(alloc, front, middle, back)?;
         assert_eq!(rt; found.tokens.len(), tokens);
         assert_eq!(rt; found.faults.len(), faults);
-        let before = found.faults.len().saturating_sub(1);
-        assert_eq!(rt;
-            listed(alloc, found.faults.split_at(before).1)?.as_str(),
-            last
-        );
+        assert_eq!(rt; last_of(alloc, &found.faults)?.as_str(), last);
     }
     Ok(())
 }
