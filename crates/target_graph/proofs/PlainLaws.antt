@@ -1,5 +1,5 @@
 -- Names, stems, paths of fields and addresses are printing ASCII characters without blanks, and short.
-use Rattle.std.proofs.Common.{◌≡◌, ℕ, ◌+◌, ◌-◌, ◌<◌, ◌≤◌, ◌^◌, ◌&&◌, Bool, true, false, not, cond, List, [], ◌∷◌, ◌++◌, length, max, take, drop, codes, eqb, leb, refl, ap, ◌∙◌, arith}
+use Rattle.std.proofs.Common.{◌≡◌, ℕ, ◌+◌, ◌-◌, ◌≤◌, ◌&&◌, Bool, true, false, not, cond, List, [], ◌∷◌, ◌++◌, length, max, take, drop, codes, eqb, leb, refl, ap, ◌∙◌, arith}
 use Rattle.std.specs.Char.{is_ascii_graphic}
 use Rattle.std.specs.List.{AllPass, list_all, slice_split, onto_first, position_or_len, suffix_len}
 use Rattle.std.specs.Str.{bytes_eq}
@@ -9,12 +9,12 @@ use Rattle.std.proofs.lemmas.List.{length-append, length-take, length-drop}
 use Rattle.std.proofs.lemmas.List.Elements.{All-take, All-drop, All-weaker}
 use Rattle.std.proofs.lemmas.List.Folds.{list_all-append}
 use Rattle.std.proofs.lemmas.List.Sums.{AllPass-from_list_all, list_all-from_AllPass}
-use Rattle.std.proofs.lemmas.Str.Ascii.{IsAscii-from_all}
 use Rattle.ob_text.specs.Ascii.{IsGraphic, IsGraphicWithin}
+use Rattle.bsp_address.specs.Address.{IsAddress}
 use Rattle.json_shape.specs.Paths.{longest}
 use Rattle.target_graph.specs.File.{file}
 use Rattle.target_graph.specs.Limits.{name_limit}
-use Rattle.target_graph.specs.Address.{target_address, document_address, IsPlainAddress}
+use Rattle.target_graph.specs.Address.{target_address, document_address}
 use Rattle.target_graph.specs.Names.{is_name_byte, are_name_bytes, is_name, is_segment, segments, stem, is_module_name, is_path, IsPlainName}
 use Rattle.target_graph.specs.Root.{IsRoot}
 
@@ -110,12 +110,12 @@ plain_stem path e =
 pub plain_field : (name : List ℕ) → IsGraphic name → length name ≤ max (length (codes "$")) (longest file) → IsPlainName name
 plain_field name graphic short = plain_bytes name_limit name graphic (omega arith)
 
--- ---- ids and addresses
+-- ---- ids and addresses: the limits of a root, of `?id=` and of a name make that of an address
 
-pub plain_id : (root name : List ℕ) → IsRoot root → is_name name ≡ true → IsPlainAddress (target_address root name)
+pub plain_id : (root name : List ℕ) → IsRoot root → is_name name ≡ true → IsAddress (target_address root name)
 unfolding target_address
 plain_id root name r n =
     plain_append 4100 255 (root ++ codes "?id=") name (plain_append 4096 4 root (codes "?id=") r (plain_bytes 4 (codes "?id=") refl (omega arith))) (plain_name name n)
 
-pub plain_document : (root path : List ℕ) → IsRoot root → is_path path ≡ true → IsPlainAddress (document_address root path)
+pub plain_document : (root path : List ℕ) → IsRoot root → is_path path ≡ true → IsAddress (document_address root path)
 plain_document root path r p = plain_within 4351 4355 (root ++ path) (omega arith) (plain_append 4096 255 root path r (plain_path path p))

@@ -1,6 +1,6 @@
 -- What holds of the targets of a file that has passed.
 use Rattle.std.proofs.Common.{◌≡◌, ◌≢◌, ℕ, suc, ◌+◌, ◌<◌, ◌≤◌, Bool, true, false, not, cond, ◌||◌, List, [], ◌∷◌, ◌++◌, length, get_or, map, codes, Option, None, Some, is_some, All, Contains, ap, sym, subst, ◌∙◌, refl, arith, ltb}
-use Rattle.std.specs.Option.{option_or, option_map, option_map_or, unwrap_or}
+use Rattle.std.specs.Option.{option_map, option_map_or}
 use Rattle.std.specs.List.{list_any, prefix_len, flat_map, AllPairs}
 use Rattle.std.specs.Str.{bytes_eq}
 use Rattle.std.proofs.lemmas.Bool.{false≢true, ltb-false}

@@ -5,8 +5,7 @@ use Rattle.std.specs.List.{list_all}
 use Rattle.std.specs.Result.{result_ok}
 use Rattle.url.specs.Parts.{Parts, serialize, cannot_be_a_base}
 use Rattle.url.specs.Parser.{parse_url}
-use Rattle.ob_text.specs.Ascii.{IsGraphicWithin}
-use Rattle.target_graph.specs.Limits.{address_limit, root_limit}
+use Rattle.target_graph.specs.Limits.{root_limit}
 
 -- the text that url prints for an address that it reads
 unfoldable pub printed : List ℕ → Option (List ℕ)
@@ -41,10 +40,6 @@ target_address root name = root ++ codes "?id=" ++ name
 -- the address of a document, by the root and the document's path
 abbrev pub document_address : List ℕ → List ℕ → List ℕ
 document_address root path = root ++ path
-
--- what ids and addresses are
-abbrev pub IsPlainAddress : List ℕ → Type 0
-IsPlainAddress text = IsGraphicWithin address_limit text
 
 -- The address that comes in is spelled so, or url prints it so.
 abbrev pub IsSpelling : List ℕ → List ℕ → Type 0

@@ -1,5 +1,5 @@
 -- The limits of a workspace, of its file and of its addresses.
-use Rattle.std.specs.Prelude.{ℕ, ◌+◌}
+use Rattle.std.specs.Prelude.{ℕ}
 
 -- the most targets
 abbrev pub targets_limit : ℕ
@@ -20,7 +20,3 @@ name_limit = 255
 -- the most bytes of a `rootUri`, and of the root that is made of it
 abbrev pub root_limit : ℕ
 root_limit = 4096
-
--- the most bytes of a target's id, and of a document's address: those of a root, of `?id=` and of a name
-abbrev pub address_limit : ℕ
-address_limit = root_limit + 4 + name_limit

@@ -1,8 +1,8 @@
 //! The workspace that a client works on: its file, its root, the closures of its targets, and the addresses of
 //! its targets and documents.
 //!
-//! It stands on `json_shape` for the fields of the file, on `url` for addresses, on `oberon_scan` for the words
-//! that no module may have as its name, and on `ob_text`. It knows the workspace file, and nothing of messages.
+//! It stands on `json_shape` for the fields of the file, on `url` and `bsp_address` for addresses, on `oberon_scan` for
+//! the words that no module may have as its name, and on `ob_text`. It knows the workspace file, and nothing of messages.
 //! Begin with `specs/File.antt` and `Faults.antt`, which say what a file has to be, then `Workspace.antt`; the
 //! code begins at `Workspace::read`.
 #![tactic(auto)]

@@ -1,11 +1,10 @@
 ghost use Rattle.std.specs.Prelude.{◌≡◌, ◌≤◌, None, Some, IfOk, length};
-ghost use Rattle.std.specs.Char.{is_ascii_graphic};
-ghost use Rattle.std.specs.List.{list_all};
 ghost use Rattle.url.specs.Parts.{serialize};
 ghost use Rattle.url.specs.Parser.{Gives, parse_url};
 ghost use Rattle.target_graph.specs.Address.{root_at, root_of_url, with_slash, plain_root};
 ghost use Rattle.target_graph.specs.Limits.{root_limit};
 
+use bsp_address::is_graphic;
 use ob_text::{NoMemory, Text};
 use std::alloc::Global;
 use std::marker::Model;
@@ -113,11 +112,4 @@ fn plain_root(text: Vec<u8>) -> Result<Root, RootFault>
     Ok(Root {
         text: Text::from_vec(text),
     })
-}
-
-/// Whether a text holds printing ASCII characters alone, without blanks.
-fn is_graphic(text: &[u8]) -> bool
-    ensures { result ≡ list_all is_ascii_graphic text.now }
-{
-    text.iter().all(|byte| byte.is_ascii_graphic())
 }

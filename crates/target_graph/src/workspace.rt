@@ -1,6 +1,6 @@
 ghost use Rattle.std.specs.Prelude.{◌≡◌, ◌≢◌, ◌<◌, ◌≤◌, ℕ, length, true, Some, IfOk, IfErr, IfSome, IfNone, All};
 ghost use Rattle.std.specs.List.{AllPairs, flat_map};
-ghost use Rattle.target_graph.specs.Address.{target_address, document_address, IsPlainAddress};
+ghost use Rattle.target_graph.specs.Address.{target_address, document_address};
 ghost use Rattle.target_graph.specs.Closures.{AreClosures, lists};
 ghost use Rattle.target_graph.specs.Faults.{Accepted, IsRefusal, IsPlainRefusal, Passed};
 ghost use Rattle.target_graph.specs.Kept.{IsSoundListing};
@@ -21,8 +21,9 @@ use crate::root::Root;
 use crate::stems::{check_stems, first_seen, groups, number};
 use crate::target::{Pair, Target};
 use crate::walk::{marked, reached};
+use bsp_address::Address;
 use indexmap::IndexSet;
-use ob_text::{Held, Name, NoMemory, Path, Text};
+use ob_text::{Held, Name, NoMemory, Path};
 use std::alloc::Global;
 use std::marker::Model;
 
@@ -176,40 +177,38 @@ impl Workspace {
     }
 
     /// The id of a target: the root, `?id=` and the target's name.
-    pub fn target_id(&self, target: u32) -> Result<Text, NoMemory>
+    pub fn target_id(&self, target: u32) -> Result<Address, NoMemory>
         requires { target < length self.now.targets }
-        ensures id { IfOk result (λ id. id ≡ id_of self.now target) }
-        ensures plain { IfOk result IsPlainAddress }
+        ensures { IfOk result (λ id. id ≡ id_of self.now target) }
     {
         self.id_of_name(&self.targets[target as usize].name)
     }
 
     /// The id of a target that has this name.
-    pub fn id_of_name(&self, name: &Name) -> Result<Text, NoMemory>
+    pub fn id_of_name(&self, name: &Name) -> Result<Address, NoMemory>
         requires { is_name name.now ≡ true }
-        ensures id { IfOk result (λ id. id ≡ target_address self.now.root name.now) }
-        ensures plain { IfOk result IsPlainAddress }
+        ensures { IfOk result (λ id. id ≡ target_address self.now.root name.now) }
     {
-        joined(self.alloc, self.root.as_slice(), ID_MARK, name.as_slice())
+        let id = joined(self.alloc, self.root.as_slice(), ID_MARK, name.as_slice())?;
+        Ok(Address::new(id))
     }
 
     /// The address of a pair's document: the root and the path.
-    pub fn document_of(&self, pair: u32) -> Result<Text, NoMemory>
+    pub fn document_of(&self, pair: u32) -> Result<Address, NoMemory>
         requires { pair < length (pairs_of self.now.targets) }
-        ensures address { IfOk result (λ text. text ≡ document_address self.now.root (path_at
+        ensures { IfOk result (λ address. address ≡ document_address self.now.root (path_at
             self.now.targets pair)) }
-        ensures plain { IfOk result IsPlainAddress }
     {
         self.address_of_path(&self.pairs[pair as usize].path)
     }
 
     /// The address of a document that has this path.
-    pub fn address_of_path(&self, path: &Path) -> Result<Text, NoMemory>
+    pub fn address_of_path(&self, path: &Path) -> Result<Address, NoMemory>
         requires { is_path path.now ≡ true }
-        ensures address { IfOk result (λ text. text ≡ document_address self.now.root path.now) }
-        ensures plain { IfOk result IsPlainAddress }
+        ensures { IfOk result (λ address. address ≡ document_address self.now.root path.now) }
     {
-        joined(self.alloc, self.root.as_slice(), b"", path.as_slice())
+        let address = joined(self.alloc, self.root.as_slice(), b"", path.as_slice())?;
+        Ok(Address::new(address))
     }
 
     /// The target whose id an address is. An address counts as it is spelled, or as `url` prints

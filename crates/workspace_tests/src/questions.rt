@@ -110,7 +110,7 @@ fn sees_pairs(rt: HostRuntime) -> Result<(), Fail> {
 fn writes_ids(rt: HostRuntime) -> Result<(), Fail> {
     let workspace = two(rt.alloc())?;
     let id = workspace.target_id(1)?;
-    assert!(rt; id.as_slice() == b"file:///w/?id=lib".as_slice());
+    assert!(rt; id.as_text().as_slice() == b"file:///w/?id=lib".as_slice());
     Ok(())
 }
 
@@ -118,7 +118,7 @@ fn writes_ids(rt: HostRuntime) -> Result<(), Fail> {
 fn writes_addresses(rt: HostRuntime) -> Result<(), Fail> {
     let workspace = two(rt.alloc())?;
     let address = workspace.document_of(1)?;
-    assert!(rt; address.as_slice() == b"file:///w/d/C.Mod".as_slice());
+    assert!(rt; address.as_text().as_slice() == b"file:///w/d/C.Mod".as_slice());
     Ok(())
 }
 

@@ -23,8 +23,4 @@ address_of_path-requires c =
 
 pub returns : goal.returns
 returns c =
-    let path = path_is c.before in
-    record {
-      address = IfOk-weaker c.address_of_path.result _ _ (λ text e. e ∙ ap (document_address c.args.self.now.root) path) c.address_of_path.ensures.address;
-      plain = c.address_of_path.ensures.plain;
-    }
+    IfOk-weaker c.address_of_path.result _ _ (λ text e. e ∙ ap (document_address c.args.self.now.root) (path_is c.before)) c.address_of_path.ensures

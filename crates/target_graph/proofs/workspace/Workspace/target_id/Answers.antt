@@ -20,7 +20,4 @@ returns c =
     let size : length c.self.inside.targets.items ≡ length space.targets = ap (λ (xs : List Target). length xs) ts in
     let h : c.args.target < length c.self.inside.targets.items = omega (arith, c.requires, size) in
     let name = name_here c.self.inside.targets.items c.args.target c.index.result.now h c.index.ensures ∙ ap (λ (xs : List Target). name_at xs c.args.target) ts in
-    record {
-      id = IfOk-weaker c.id_of_name.result _ _ (λ id e. e ∙ ap (target_address space.root) name) c.id_of_name.ensures.id;
-      plain = c.id_of_name.ensures.plain;
-    }
+    IfOk-weaker c.id_of_name.result _ _ (λ id e. e ∙ ap (target_address space.root) name) c.id_of_name.ensures
