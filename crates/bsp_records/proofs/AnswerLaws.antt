@@ -8,7 +8,7 @@ use Rattle.json.specs.Print.{quoted, escape, escape_byte, escape_letter}
 use Rattle.serde_json.specs.Data.{Data, string, boolean}
 use Rattle.serde_json.specs.Written.{compact_text}
 use Rattle.bsp_records.specs.Results.{target_data, target_capabilities_data, build_target_data, build_targets_result_data, source_item_kind_data, source_item_data, sources_item_data, sources_result_data, inverse_sources_result_data}
-use Rattle.bsp_records.specs.Short.{short_address_limit}
+use Rattle.bsp_address.specs.Address.{address_limit}
 use Rattle.ob_text.specs.Ascii.{IsGraphic, IsGraphicWithin}
 use Rattle.bsp_records.specs.ShortAnswers.{IsShortIdentifier, IsShortTarget, IsShortTargets, IsShortSource, IsShortSourcesItem, IsShortSources, IsShortInverseSources, answer_limit}
 use Rattle.bsp_records.specs.Writing.{array_with}
@@ -57,7 +57,7 @@ identifier_room = 8840
 identifier_short : (target : BuildTargetIdentifier) → IsShortIdentifier target → length (compact_text (target_data target)) < identifier_room
 identifier_short target short =
     let whole = object_short ((codes "uri", Some (string target.uri)) ∷ []) in
-    let text = graphic_short short_address_limit target.uri short in
+    let text = graphic_short address_limit target.uri short in
     omega arith
 
 identifiers_short : (targets : List BuildTargetIdentifier) → All IsShortIdentifier targets
@@ -121,7 +121,7 @@ kind_short Directory = number_short 2 (omega arith)
 source_short : (s : SourceItem) → IsShortSource s → length (compact_text (source_item_data s)) < source_room
 source_short s short =
     let whole = object_short ((codes "uri", Some (string s.uri)) ∷ (codes "kind", Some (source_item_kind_data s.kind)) ∷ (codes "generated", Some (boolean s.generated)) ∷ []) in
-    let uri = graphic_short short_address_limit s.uri short in
+    let uri = graphic_short address_limit s.uri short in
     let kind = kind_short s.kind in
     let generated = flag_short s.generated in
     omega arith

@@ -2,7 +2,6 @@
 -- its records are short.
 use Rattle.std.proofs.Common.{◌≡◌, ℕ, List, [], ◌∷◌, map, false, Option, Some, None, option_map, refl}
 use Rattle.std.specs.Prelude.{codes}
-use Rattle.std.specs.List.{All}
 use Rattle.std.specs.Option.{IfSome}
 use Rattle.serde_json.specs.Data.{Data, string, boolean, Members, no_members}
 use Rattle.serde_json.specs.View.{items_of}

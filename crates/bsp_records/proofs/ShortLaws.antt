@@ -25,7 +25,8 @@ use Rattle.serde_json.specs.Written.{compact_text, items_text, members_text, com
 use Rattle.bsp_records.specs.Diagnostics.{position_data, range_data, severity_data, diagnostic_data, publish_diagnostics_params_data}
 use Rattle.bsp_records.specs.Identifiers.{identifier_data}
 use Rattle.ob_text.specs.Ascii.{IsWithin}
-use Rattle.bsp_records.specs.Short.{IsShortAddress, IsShortPosition, IsShortRecord, IsShortPublication, publication_limit}
+use Rattle.bsp_address.specs.Address.{address_limit, IsAddress}
+use Rattle.bsp_records.specs.Short.{IsShortPosition, IsShortRecord, IsShortPublication, publication_limit}
 use Rattle.bsp_records.specs.Shown.{shown, shown_message}
 use Rattle.bsp_records.specs.Writing.{with_member, with_members, object_with, array_with}
 use Rattle.bsp_records.specs.declared.diagnostics.DiagnosticRecord.{DiagnosticRecord}
@@ -208,9 +209,9 @@ diagnostic_short r short =
     let message = text_room (codes "message") 200 (Some r.message) short.message in
     omega arith)
 
-identifier_short : (uri : List ℕ) → IsShortAddress uri → length (compact_text (identifier_data uri)) ≤ 26500
+identifier_short : (uri : List ℕ) → IsAddress uri → length (compact_text (identifier_data uri)) ≤ 26500
 identifier_short uri short =
-    through (object_short ((codes "uri", Some (string uri)) ∷ [])) (let text = text_room (codes "uri") 4400 (Some uri) short in omega arith)
+    through (object_short ((codes "uri", Some (string uri)) ∷ [])) (let text = text_room (codes "uri") address_limit (Some uri) short.short in omega arith)
 
 pub flag_short : (b : Bool) → length (compact_text (boolean b)) ≤ 5
 flag_short true = lit≤ tt

@@ -1,11 +1,12 @@
 -- Publications that are short, as those of the language's diagnostics are: their params print in a part
 -- of a frame.
-use Rattle.std.specs.Prelude.{ℕ, ◌<◌, ◌≤◌, List, length}
+use Rattle.std.specs.Prelude.{ℕ, ◌<◌, ◌≤◌, length}
 use Rattle.std.specs.List.{All}
 use Rattle.std.specs.Option.{IfSome}
 use Rattle.ob_text.specs.declared.position.Position.{Position}
 use Rattle.bsp_records.specs.declared.diagnostics.DiagnosticRecord.{DiagnosticRecord}
 use Rattle.ob_text.specs.Ascii.{IsWithin}
+use Rattle.bsp_address.specs.Address.{IsAddress}
 use Rattle.bsp_records.specs.Limits.{origin_limit}
 use Rattle.bsp_records.specs.declared.publishing.PublishDiagnosticsParams.{PublishDiagnosticsParams}
 
@@ -21,20 +22,13 @@ pub record IsShortRecord (r : DiagnosticRecord) : Type 0 where
   pub source : IfSome r.source (IsWithin 10)
   pub message : IsWithin 200 r.message
 
--- the most bytes of a short address of a document or a target
-abbrev pub short_address_limit : ℕ
-short_address_limit = 4400
-
-abbrev pub IsShortAddress : List ℕ → Type 0
-IsShortAddress = IsWithin short_address_limit
-
 -- the most diagnostics of one publication
 abbrev pub diagnostics_limit : ℕ
 diagnostics_limit = 100
 
 pub record IsShortPublication (p : PublishDiagnosticsParams) : Type 0 where
-  pub document : IsShortAddress p.text_document.uri
-  pub target : IsShortAddress p.build_target.uri
+  pub document : IsAddress p.text_document.uri
+  pub target : IsAddress p.build_target.uri
   pub origin : IfSome p.origin_id (IsWithin origin_limit)
   pub count : length p.diagnostics ≤ diagnostics_limit
   pub diagnostics : All IsShortRecord p.diagnostics

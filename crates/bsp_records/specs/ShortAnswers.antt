@@ -1,9 +1,9 @@
 -- Answers that are short and have only printing characters, as those about a workspace are: their
 -- results print in a frame.
-use Rattle.std.specs.Prelude.{◌≤◌, ℕ, List, length, flat_map}
+use Rattle.std.specs.Prelude.{◌≤◌, ℕ, length, flat_map}
 use Rattle.ob_text.specs.Ascii.{IsGraphicWithin}
 use Rattle.std.specs.List.{All}
-use Rattle.bsp_records.specs.Short.{short_address_limit}
+use Rattle.bsp_address.specs.Address.{IsAddress}
 use Rattle.bsp_records.specs.declared.identifiers.BuildTargetIdentifier.{BuildTargetIdentifier}
 use Rattle.bsp_records.specs.declared.results.BuildTarget.{BuildTarget}
 use Rattle.bsp_records.specs.declared.results.BuildTargetsResult.{BuildTargetsResult}
@@ -12,12 +12,8 @@ use Rattle.bsp_records.specs.declared.results.SourceItem.{SourceItem}
 use Rattle.bsp_records.specs.declared.results.SourcesItem.{SourcesItem}
 use Rattle.bsp_records.specs.declared.results.SourcesResult.{SourcesResult}
 
--- a short address of a document or a target
-abbrev pub IsShortId : List ℕ → Type 0
-IsShortId = IsGraphicWithin short_address_limit
-
 abbrev pub IsShortIdentifier : BuildTargetIdentifier → Type 0
-IsShortIdentifier target = IsShortId target.uri
+IsShortIdentifier target = IsAddress target.uri
 
 -- ---- targets
 
@@ -46,7 +42,7 @@ pub record IsShortTargets (r : BuildTargetsResult) : Type 0 where
 -- ---- documents
 
 abbrev pub IsShortSource : SourceItem → Type 0
-IsShortSource s = IsShortId s.uri
+IsShortSource s = IsAddress s.uri
 
 pub record IsShortSourcesItem (i : SourcesItem) : Type 0 where
   pub target : IsShortIdentifier i.target

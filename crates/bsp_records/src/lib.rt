@@ -1,8 +1,8 @@
 //! The records of the Build Server Protocol 2.2: what is read of a JSON value, and what is written as one; and
 //! what of them is short enough for a frame.
 //!
-//! It stands on `json_shape` for reading, on `ob_text`, and on `serde_json`. It knows the protocol's records,
-//! and nothing of a session. Begin with `specs/Params.antt` and `params.rt`, then `Requests.antt` and
+//! It stands on `json_shape` for reading, on `bsp_address` and `ob_text`, and on `serde_json`. It knows the protocol's
+//! records, and nothing of a session. Begin with `specs/Params.antt` and `params.rt`, then `Requests.antt` and
 //! `requests.rt`, which read a request by its method.
 #![tactic(auto)]
 

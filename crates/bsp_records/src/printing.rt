@@ -11,6 +11,7 @@ ghost use Rattle.bsp_records.specs.Writing.{array_with};
 use crate::identifiers::{BuildTargetIdentifier, TextDocumentIdentifier};
 use crate::shown::show;
 use crate::writing::Write;
+use bsp_address::Address;
 use ob_text::{Diagnostic, NoMemory, Text};
 use std::alloc::Global;
 
@@ -19,15 +20,13 @@ use std::alloc::Global;
 /// memory beside the text.
 pub fn print_publication(
     alloc: Global,
-    document: &Text,
-    target: &Text,
+    document: &Address,
+    target: &Address,
     origin: &Option<Text>,
     reset: bool,
     list: &[Diagnostic],
     out: &mut Vec<u8>,
 ) -> Result<(), NoMemory>
-    requires document { IsUtf8 document.now }
-    requires target { IsUtf8 target.now }
     requires origin { IfSome origin.now IsUtf8 }
     requires names { All HasPlainName list.now }
     ensures { OnOk result (out.new.items ≡ out.old.items ++ compact_text (publish_diagnostics_params_data
@@ -35,7 +34,7 @@ pub fn print_publication(
 {
     put(out, b"{\"buildTarget\":")?;
     let target = BuildTargetIdentifier {
-        uri: target.copy(alloc)?,
+        uri: target.as_text().copy(alloc)?,
     };
     print(alloc, &target, out)?;
     put(out, b",\"diagnostics\":")?;
@@ -45,7 +44,7 @@ pub fn print_publication(
     print(alloc, &reset, out)?;
     put(out, b",\"textDocument\":")?;
     let document = TextDocumentIdentifier {
-        uri: document.copy(alloc)?,
+        uri: document.as_text().copy(alloc)?,
     };
     print(alloc, &document, out)?;
     put(out, b"}")

@@ -27,7 +27,7 @@ returns c =
     let k = codes "}" in
     let one : c.put.new.out.items ≡ out ++ a = c.in_ok-put.ensures in
     let target : c.print.new.out.items ≡ c.put.new.out.items ++ b =
-    c.in_ok-print.ensures ∙ ap (λ (uri : List ℕ). c.put.new.out.items ++ compact_text (identifier_data uri)) c.in_ok-copy.ensures in
+    c.in_ok-print.ensures ∙ ap (λ (uri : List ℕ). c.put.new.out.items ++ compact_text (identifier_data uri)) (c.in_ok-copy.ensures ∙ c.as_text.ensures.text) in
     let two : c.print.new.out.items ≡ (out ++ a) ++ b = printed_on c.print.new.out.items c.put.new.out.items (out ++ a) b target one in
     let three : c.put-2.new.out.items ≡ ((out ++ a) ++ b) ++ d = printed_on c.put-2.new.out.items c.print.new.out.items ((out ++ a) ++ b) d c.in_ok-put-2.ensures two in
     let four : c.print_list.new.out.items ≡ (((out ++ a) ++ b) ++ d) ++ e = printed_on c.print_list.new.out.items c.put-2.new.out.items (((out ++ a) ++ b) ++ d) e c.in_ok-print_list.ensures three in
@@ -40,7 +40,7 @@ returns c =
     let eight : c.put-4.new.out.items ≡ (((((((out ++ a) ++ b) ++ d) ++ e) ++ f) ++ g) ++ h) ++ i =
     printed_on c.put-4.new.out.items c.print-2.new.out.items (((((((out ++ a) ++ b) ++ d) ++ e) ++ f) ++ g) ++ h) i c.in_ok-put-4.ensures seven in
     let document : c.print-3.new.out.items ≡ c.put-4.new.out.items ++ j =
-    c.in_ok-print-3.ensures ∙ ap (λ (uri : List ℕ). c.put-4.new.out.items ++ compact_text (identifier_data uri)) c.in_ok-copy-2.ensures in
+    c.in_ok-print-3.ensures ∙ ap (λ (uri : List ℕ). c.put-4.new.out.items ++ compact_text (identifier_data uri)) (c.in_ok-copy-2.ensures ∙ c.as_text-2.ensures.text) in
     let nine : c.print-3.new.out.items ≡ ((((((((out ++ a) ++ b) ++ d) ++ e) ++ f) ++ g) ++ h) ++ i) ++ j =
     printed_on c.print-3.new.out.items c.put-4.new.out.items ((((((((out ++ a) ++ b) ++ d) ++ e) ++ f) ++ g) ++ h) ++ i) j document eight in
     on_ok_weaker c.put-5.result
