@@ -2,13 +2,14 @@ ghost use Rattle.std.specs.Prelude.{IfOk};
 ghost use Rattle.std.specs.List.{All};
 ghost use Rattle.bsp_records.specs.Shown.{HasPlainName};
 
+use bsp_address::Address;
 use bsp_records::{PublishDiagnosticsParams, read_publish_diagnostics_params};
 use ob_text::{Code, Diagnostic, NoMemory, Position, Range, Span, Text};
 use serde_json::Value;
 use std::alloc::Global;
 use std::sync::Arc;
 use std::test::Fail;
-use task_stream::{Address, Piece, Shown};
+use task_stream::{Piece, Shown, TableKey};
 
 fn bad_character(place: u32) -> Diagnostic
     ensures { HasPlainName result }
@@ -43,6 +44,13 @@ fn many(alloc: Global, count: u32) -> Result<Vec<Diagnostic>, NoMemory>
     Ok(list)
 }
 
+fn address(alloc: Global, text: &str) -> Result<Address, Fail> {
+    match Address::from_text(Text::new(alloc, text.as_bytes())?) {
+        Some(address) => Ok(address),
+        None => Err(Fail::new("address")),
+    }
+}
+
 /// The params of a piece, as a client reads them.
 fn params(alloc: Global, piece: &Piece) -> Result<PublishDiagnosticsParams, Fail> {
     let mut text = Vec::new(alloc);
@@ -51,16 +59,40 @@ fn params(alloc: Global, piece: &Piece) -> Result<PublishDiagnosticsParams, Fail
     Ok(read_publish_diagnostics_params(alloc, &value)?)
 }
 
+fn is_address(alloc: Global, text: &str) -> Result<bool, NoMemory> {
+    Ok(Address::from_text(Text::new(alloc, text.as_bytes())?).is_some())
+}
+
+/// A text of so many bytes.
+fn long(alloc: Global, count: u32) -> Result<Text, NoMemory> {
+    let mut text = Vec::new(alloc);
+    for _ in 0..count {
+        text.push(b'a')?;
+    }
+    Ok(Text::from_vec(text))
+}
+
+#[test]
+fn knows_addresses(rt: HostRuntime) -> Result<(), Fail> {
+    let alloc = rt.alloc();
+    assert!(rt; is_address(alloc, "file:///w/A.Mod")?);
+    assert!(rt; !is_address(alloc, "file:///w/A B.Mod")?);
+    assert!(rt; !is_address(alloc, "file:///w/Ä.Mod")?);
+    assert!(rt; Address::from_text(long(alloc, 4_355)?).is_some());
+    assert!(rt; Address::from_text(long(alloc, 4_356)?).is_none());
+    Ok(())
+}
+
 #[test]
 fn publishes_in_pieces_what_is_not_shown(rt: HostRuntime) -> Result<(), Fail> {
     let alloc = rt.alloc();
-    let address = Address {
-        document: Text::new(alloc, "file:///w/A.Mod".as_bytes())?,
-        target: Text::new(alloc, "file:///w/?id=app".as_bytes())?,
+    let key = TableKey {
+        document: address(alloc, "file:///w/A.Mod")?,
+        target: address(alloc, "file:///w/?id=app")?,
     };
     let mut shown = Shown::new(alloc);
     let origin = Arc::new(alloc, None)?;
-    let pieces = shown.publish(&address, &origin, many(alloc, 250)?)?;
+    let pieces = shown.publish(&key, &origin, many(alloc, 250)?)?;
     assert_eq!(rt; pieces.len(), 3);
     let first = params(alloc, &pieces.as_slice()[0])?;
     let second = params(alloc, &pieces.as_slice()[1])?;
@@ -70,9 +102,9 @@ fn publishes_in_pieces_what_is_not_shown(rt: HostRuntime) -> Result<(), Fail> {
     assert!(rt; first.reset);
     assert!(rt; !second.reset);
     assert_eq!(rt;
-        shown.publish(&address, &origin, many(alloc, 250)?)?.len(),
+        shown.publish(&key, &origin, many(alloc, 250)?)?.len(),
         0
     );
-    assert_eq!(rt; shown.publish(&address, &origin, many(alloc, 0)?)?.len(), 1);
+    assert_eq!(rt; shown.publish(&key, &origin, many(alloc, 0)?)?.len(), 1);
     Ok(())
 }

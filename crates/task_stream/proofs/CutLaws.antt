@@ -9,7 +9,7 @@ use Rattle.bsp_records.specs.Short.{diagnostics_limit}
 use Rattle.bsp_records.specs.declared.diagnostics.DiagnosticRecord.{DiagnosticRecord}
 use Rattle.bsp_records.specs.declared.publishing.PublishDiagnosticsParams.{PublishDiagnosticsParams}
 use Rattle.task_stream.specs.Pieces.{cut, later_pieces, piece, pieces}
-use Rattle.task_stream.specs.declared.shown.Address.{Address}
+use Rattle.task_stream.specs.declared.shown.TableKey.{TableKey}
 use Rattle.task_stream.proofs.PieceLaws.{cut_same}
 
 drop_min : {A : Type 0} (n : ℕ) (items : List A) → drop (min n (length items)) items ≡ drop n items
@@ -38,16 +38,16 @@ not_first : (n : ℕ) → 0 < n → (n == 0) ≡ false
 not_first n h = grind (arith, nat_tests)
 
 -- the pieces of what is left of so many
-abbrev pub pieces_left : Address → Option (List ℕ) → List DiagnosticRecord → ℕ → ℕ → List PublishDiagnosticsParams
-pieces_left address origin records count left = map (piece address origin false) (cut left (drop (count - left) records))
+abbrev pub pieces_left : TableKey → Option (List ℕ) → List DiagnosticRecord → ℕ → ℕ → List PublishDiagnosticsParams
+pieces_left key origin records count left = map (piece key origin false) (cut left (drop (count - left) records))
 
-module _ (address : Address) (origin : Option (List ℕ)) (records : List DiagnosticRecord) (count : ℕ) (size : length records ≡ count) where
+module _ (key : TableKey) (origin : Option (List ℕ)) (records : List DiagnosticRecord) (count : ℕ) (size : length records ≡ count) where
   abbrev behind : ℕ → List PublishDiagnosticsParams
-  behind left = pieces_left address origin records count left
+  behind left = pieces_left key origin records count left
 
   -- the first piece, and those of what is left behind it
   pub first_piece : (least : ℕ) → least ≡ min diagnostics_limit count
-      → piece address origin true (take diagnostics_limit (drop 0 records)) ∷ pieces_left address origin records count (count - least) ≡ pieces address origin records
+      → piece key origin true (take diagnostics_limit (drop 0 records)) ∷ pieces_left key origin records count (count - least) ≡ pieces key origin records
   first_piece least is =
       let total : length records ≡ count = size in
       let at : count - (count - least) ≡ min diagnostics_limit (length records) = omega (arith, is, total) in
@@ -55,7 +55,7 @@ module _ (address : Address) (origin : Option (List ℕ)) (records : List Diagno
       let dropped = length-drop diagnostics_limit records in
       let same : cut (count - least) (drop diagnostics_limit records) ≡ later_pieces records =
       cut_same (count - least) (length records) (drop diagnostics_limit records) (omega (arith, dropped, total, is)) (omega (arith, dropped)) in
-      ap (λ parts. piece address origin true (take diagnostics_limit records) ∷ map (piece address origin false) parts) (ap (cut (count - least)) rest ∙ same)
+      ap (λ parts. piece key origin true (take diagnostics_limit records) ∷ map (piece key origin false) parts) (ap (cut (count - least)) rest ∙ same)
 
   -- the next piece of what is left, and those behind it
   next_cut : (left least : ℕ) → least ≡ min diagnostics_limit left → 0 < left → left ≤ count
@@ -73,10 +73,10 @@ module _ (address : Address) (origin : Option (List ℕ)) (records : List Diagno
       ∙ ap (λ r. take diagnostics_limit rest ∷ cut (left - least) r) (sym behind_it))
 
   pub next_piece : (before : List PublishDiagnosticsParams) (left least : ℕ) → least ≡ min diagnostics_limit left → 0 < left → left < count
-      → (before ++ piece address origin (count - left == 0) (take diagnostics_limit (drop (count - left) records)) ∷ []) ++ pieces_left address origin records count (left - least) ≡ before ++ pieces_left address origin records count left
+      → (before ++ piece key origin (count - left == 0) (take diagnostics_limit (drop (count - left) records)) ∷ []) ++ pieces_left key origin records count (left - least) ≡ before ++ pieces_left key origin records count left
   next_piece before left least is more within =
       let own = take diagnostics_limit (drop (count - left) records) in
       let later : (count - left == 0) ≡ false = not_first (count - left) (omega (arith, within)) in
-      ap (λ b. (before ++ piece address origin b own ∷ []) ++ behind (left - least)) later
-      ∙ (append_assoc before (piece address origin false own ∷ []) (behind (left - least))
-      ∙ ap (λ parts. before ++ map (piece address origin false) parts) (sym (next_cut left least is more (omega (arith, within)))))
+      ap (λ b. (before ++ piece key origin b own ∷ []) ++ behind (left - least)) later
+      ∙ (append_assoc before (piece key origin false own ∷ []) (behind (left - least))
+      ∙ ap (λ parts. before ++ map (piece key origin false) parts) (sym (next_cut left least is more (omega (arith, within)))))

@@ -8,10 +8,11 @@ use Rattle.std.specs.List.{All}
 use Rattle.std.specs.Option.{IfSome}
 use Rattle.std.specs.Str.{bytes_eq}
 use Rattle.ob_text.specs.Ascii.{IsWithin}
+use Rattle.bsp_address.specs.Address.{IsAddress}
 use Rattle.bsp_records.specs.Limits.{origin_limit}
 use Rattle.ob_text.specs.declared.diagnostic.Diagnostic.{Diagnostic}
 use Rattle.bsp_records.proofs.ShortLaws.{shown_short}
-use Rattle.bsp_records.specs.Short.{diagnostics_limit, IsShortAddress, IsShortPublication, IsShortRecord}
+use Rattle.bsp_records.specs.Short.{diagnostics_limit, IsShortPublication, IsShortRecord}
 use Rattle.bsp_records.specs.Shown.{shown}
 use Rattle.bsp_records.specs.Table.{Table, published, table_with}
 use Rattle.bsp_records.specs.declared.diagnostics.DiagnosticRecord.{DiagnosticRecord}
@@ -19,7 +20,7 @@ use Rattle.bsp_records.specs.declared.publishing.PublishDiagnosticsParams.{Publi
 use Rattle.task_stream.specs.Pieces.{cut, later_pieces, piece, pieces, IsPiece}
 use Rattle.task_stream.specs.Showing.{is_at, shows, MakeShow}
 use Rattle.task_stream.specs.Waiting.{IsShortDiagnostic}
-use Rattle.task_stream.specs.declared.shown.Address.{Address}
+use Rattle.task_stream.specs.declared.shown.TableKey.{TableKey}
 use Rattle.task_stream.specs.declared.shown.Shown.{Shown}
 
 -- ---- the pieces of a list are the list
@@ -57,43 +58,43 @@ whole_joined items =
 
 -- ---- what a client shows then
 
-module _ (address : Address) (origin : Option (List ℕ)) (document target : List ℕ) where
-  -- pieces that don't reset add to what is shown at their address
-  added : (here : is_at address document target ≡ true) (parts : List (List DiagnosticRecord)) (table : Table)
-      → table_with (map (piece address origin false) parts) table document target ≡ table document target ++ joined parts
+module _ (key : TableKey) (origin : Option (List ℕ)) (document target : List ℕ) where
+  -- pieces that don't reset add to what is shown at their key
+  added : (here : is_at key document target ≡ true) (parts : List (List DiagnosticRecord)) (table : Table)
+      → table_with (map (piece key origin false) parts) table document target ≡ table document target ++ joined parts
   added here [] table = sym (append-nil (table document target))
   added here (part ∷ parts) table =
-      let first : published (piece address origin false part) table document target ≡ table document target ++ part = rw here refl in
-      added here parts (published (piece address origin false part) table) ∙ (ap (λ list. list ++ joined parts) first ∙ append_assoc (table document target) part (joined parts))
+      let first : published (piece key origin false part) table document target ≡ table document target ++ part = rw here refl in
+      added here parts (published (piece key origin false part) table) ∙ (ap (λ list. list ++ joined parts) first ∙ append_assoc (table document target) part (joined parts))
 
   -- and change nothing elsewhere
-  kept : (there : is_at address document target ≡ false) (reset : Bool) (parts : List (List DiagnosticRecord)) (table : Table)
-      → table_with (map (piece address origin reset) parts) table document target ≡ table document target
+  kept : (there : is_at key document target ≡ false) (reset : Bool) (parts : List (List DiagnosticRecord)) (table : Table)
+      → table_with (map (piece key origin reset) parts) table document target ≡ table document target
   kept there reset [] table = refl
   kept there reset (part ∷ parts) table =
-      let first : published (piece address origin reset part) table document target ≡ table document target = rw there refl in
-      kept there reset parts (published (piece address origin reset part) table) ∙ first
+      let first : published (piece key origin reset part) table document target ≡ table document target = rw there refl in
+      kept there reset parts (published (piece key origin reset part) table) ∙ first
 
-  -- the pieces of a list make it the one that is shown at their address
-  pieces_show : is_at address document target ≡ true → (records : List DiagnosticRecord) (table : Table) → table_with (pieces address origin records) table document target ≡ records
+  -- the pieces of a list make it the one that is shown at their key
+  pieces_show : is_at key document target ≡ true → (records : List DiagnosticRecord) (table : Table) → table_with (pieces key origin records) table document target ≡ records
   pieces_show here records table =
       let first = take diagnostics_limit records in
-      let begun : published (piece address origin true first) table document target ≡ first = rw here refl in
-      added here (later_pieces records) (published (piece address origin true first) table) ∙ (ap (λ list. list ++ joined (later_pieces records)) begun ∙ whole_joined records)
+      let begun : published (piece key origin true first) table document target ≡ first = rw here refl in
+      added here (later_pieces records) (published (piece key origin true first) table) ∙ (ap (λ list. list ++ joined (later_pieces records)) begun ∙ whole_joined records)
 
-  pieces_keep : is_at address document target ≡ false → (records : List DiagnosticRecord) (table : Table) → table_with (pieces address origin records) table document target ≡ table document target
+  pieces_keep : is_at key document target ≡ false → (records : List DiagnosticRecord) (table : Table) → table_with (pieces key origin records) table document target ≡ table document target
   pieces_keep there records table =
-      let first : published (piece address origin true (take diagnostics_limit records)) table document target ≡ table document target = rw there refl in
-      kept there false (later_pieces records) (published (piece address origin true (take diagnostics_limit records)) table) ∙ first
+      let first : published (piece key origin true (take diagnostics_limit records)) table document target ≡ table document target = rw there refl in
+      kept there false (later_pieces records) (published (piece key origin true (take diagnostics_limit records)) table) ∙ first
 
 -- so the pieces make a client show the list
-pub pieces_make : (ps : List PublishDiagnosticsParams) (old : Shown) (address : Address) (records : List DiagnosticRecord) (origin : Option (List ℕ))
-    → ps ≡ pieces address origin records → MakeShow ps old address records
-pieces_make ps old address records origin is table agrees document target = by_place (is_at address document target) refl
+pub pieces_make : (ps : List PublishDiagnosticsParams) (old : Shown) (key : TableKey) (records : List DiagnosticRecord) (origin : Option (List ℕ))
+    → ps ≡ pieces key origin records → MakeShow ps old key records
+pieces_make ps old key records origin is table agrees document target = by_place (is_at key document target) refl
   where
-    by_place : (here : Bool) → is_at address document target ≡ here → table_with ps table document target ≡ (if here then records else table document target)
-    by_place true here = ap (λ some. table_with some table document target) is ∙ pieces_show address origin document target here records table
-    by_place false there = ap (λ some. table_with some table document target) is ∙ pieces_keep address origin document target there records table
+    by_place : (here : Bool) → is_at key document target ≡ here → table_with ps table document target ≡ (if here then records else table document target)
+    by_place true here = ap (λ some. table_with some table document target) is ∙ pieces_show key origin document target here records table
+    by_place false there = ap (λ some. table_with some table document target) is ∙ pieces_keep key origin document target there records table
 
 left_true : (a b : Bool) → (a && b) ≡ true → a ≡ true
 left_true true b h = refl
@@ -104,51 +105,51 @@ right_true true b h = h
 right_true false b h = absurd (cc)
 
 -- and none are needed, where the client shows the list already
-pub none_make : (ps : List PublishDiagnosticsParams) (old : Shown) (address : Address) (records : List DiagnosticRecord)
-    → ps ≡ [] → shows old address.document address.target ≡ records → MakeShow ps old address records
-none_make ps old address records is shown table agrees document target =
-    ap (λ some. table_with some table document target) is ∙ by_place (is_at address document target) refl
+pub none_make : (ps : List PublishDiagnosticsParams) (old : Shown) (key : TableKey) (records : List DiagnosticRecord)
+    → ps ≡ [] → shows old key.document key.target ≡ records → MakeShow ps old key records
+none_make ps old key records is shown table agrees document target =
+    ap (λ some. table_with some table document target) is ∙ by_place (is_at key document target) refl
   where
-    by_place : (here : Bool) → is_at address document target ≡ here → table document target ≡ (if here then records else table document target)
+    by_place : (here : Bool) → is_at key document target ≡ here → table document target ≡ (if here then records else table document target)
     by_place true here =
-        let document_here = bytes_eq address.document document in
-        let target_here = bytes_eq address.target target in
-        let same_document : address.document ≡ document = (bytes_eq-Decides address.document document).0 (left_true document_here target_here here) in
-        let same_target : address.target ≡ target = (bytes_eq-Decides address.target target).0 (right_true document_here target_here here) in
+        let document_here = bytes_eq key.document document in
+        let target_here = bytes_eq key.target target in
+        let same_document : key.document ≡ document = (bytes_eq-Decides key.document document).0 (left_true document_here target_here here) in
+        let same_target : key.target ≡ target = (bytes_eq-Decides key.target target).0 (right_true document_here target_here here) in
         cc
     by_place false there = refl
 
 -- ---- what holds of each piece
 
-module _ (P : DiagnosticRecord → Type 0) (Q : PublishDiagnosticsParams → Type 0) (address : Address) (origin : Option (List ℕ))
-    (each : (reset : Bool) (part : List DiagnosticRecord) → length part ≤ diagnostics_limit → All P part → Q (piece address origin reset part)) where
-  one : (reset : Bool) (records : List DiagnosticRecord) → All P records → Q (piece address origin reset (take diagnostics_limit records))
+module _ (P : DiagnosticRecord → Type 0) (Q : PublishDiagnosticsParams → Type 0) (key : TableKey) (origin : Option (List ℕ))
+    (each : (reset : Bool) (part : List DiagnosticRecord) → length part ≤ diagnostics_limit → All P part → Q (piece key origin reset part)) where
+  one : (reset : Bool) (records : List DiagnosticRecord) → All P records → Q (piece key origin reset (take diagnostics_limit records))
   one reset records all =
       each reset (take diagnostics_limit records) (let l = length-take diagnostics_limit records in omega (arith, l)) (All-take P diagnostics_limit records all)
 
-  later : (most : ℕ) (records : List DiagnosticRecord) → All P records → All Q (map (piece address origin false) (cut most records))
+  later : (most : ℕ) (records : List DiagnosticRecord) → All P records → All Q (map (piece key origin false) (cut most records))
   later zero records all = All-nil Q
   later (suc most) [] all = All-nil Q
   later (suc most) (x ∷ xs) all =
-      All-cons Q (piece address origin false (take diagnostics_limit (x ∷ xs))) (map (piece address origin false) (cut most (drop diagnostics_limit (x ∷ xs)))) (one false (x ∷ xs) all)
+      All-cons Q (piece key origin false (take diagnostics_limit (x ∷ xs))) (map (piece key origin false) (cut most (drop diagnostics_limit (x ∷ xs)))) (one false (x ∷ xs) all)
       (later most (drop diagnostics_limit (x ∷ xs)) (All-drop P diagnostics_limit (x ∷ xs) all))
 
-  all_pieces : (records : List DiagnosticRecord) → All P records → All Q (pieces address origin records)
+  all_pieces : (records : List DiagnosticRecord) → All P records → All Q (pieces key origin records)
   all_pieces records all =
-      All-cons Q (piece address origin true (take diagnostics_limit records)) (map (piece address origin false) (later_pieces records)) (one true records all)
+      All-cons Q (piece key origin true (take diagnostics_limit records)) (map (piece key origin false) (later_pieces records)) (one true records all)
       (later (length records) (drop diagnostics_limit records) (All-drop P diagnostics_limit records all))
 
-pub pieces_few : (ps : List PublishDiagnosticsParams) (address : Address) (origin : Option (List ℕ)) (records : List DiagnosticRecord)
-    → ps ≡ pieces address origin records → All IsPiece ps
-pieces_few ps address origin records is =
-    subst (All IsPiece) (sym is) (all_pieces (λ _. ⊤) IsPiece address origin (λ reset part few all. few) records (λ k d h. tt))
+pub pieces_few : (ps : List PublishDiagnosticsParams) (key : TableKey) (origin : Option (List ℕ)) (records : List DiagnosticRecord)
+    → ps ≡ pieces key origin records → All IsPiece ps
+pieces_few ps key origin records is =
+    subst (All IsPiece) (sym is) (all_pieces (λ _. ⊤) IsPiece key origin (λ reset part few all. few) records (λ k d h. tt))
 
-pub pieces_short : (ps : List PublishDiagnosticsParams) (address : Address) (origin : Option (List ℕ)) (records : List DiagnosticRecord)
-    → ps ≡ pieces address origin records → All IsShortRecord records → IsShortAddress address.document → IsShortAddress address.target → IfSome origin (IsWithin origin_limit)
+pub pieces_short : (ps : List PublishDiagnosticsParams) (key : TableKey) (origin : Option (List ℕ)) (records : List DiagnosticRecord)
+    → ps ≡ pieces key origin records → All IsShortRecord records → IsAddress key.document → IsAddress key.target → IfSome origin (IsWithin origin_limit)
     → All IsShortPublication ps
-pieces_short ps address origin records is all document target within =
+pieces_short ps key origin records is all document target within =
     subst (All IsShortPublication) (sym is)
-    (all_pieces IsShortRecord IsShortPublication address origin
+    (all_pieces IsShortRecord IsShortPublication key origin
     (λ reset part few short. record { document = document; target = target; origin = within; count = few; diagnostics = short }) records all)
 
 -- the records of a text's diagnostics are short

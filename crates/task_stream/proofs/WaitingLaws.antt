@@ -26,10 +26,10 @@ part_shown list first = sym (take-map shown diagnostics_limit (drop first list))
 
 pub printed_as : (p : Inside) (self : PublishDiagnosticsParams) (whole : Whole) (part : List Diagnostic) (origin : Option (List ℕ)) → piece_of p ≡ self → whole ≡ p.whole.value
     → part ≡ take diagnostics_limit (drop p.first p.whole.value.list.value) → origin ≡ p.whole.value.origin.value
-    → publication whole.address.document whole.address.target origin (p.first == 0) (map shown part) ≡ self
+    → publication whole.key.document whole.key.target origin (p.first == 0) (map shown part) ≡ self
 printed_as p self whole part origin view same is of_build =
-    ap (λ (w : Whole). publication w.address.document w.address.target origin (p.first == 0) (map shown part)) same
-    ∙ (ap (λ (o : Option (List ℕ)). publication p.whole.value.address.document p.whole.value.address.target o (p.first == 0) (map shown part)) of_build
-    ∙ (ap (λ records. publication p.whole.value.address.document p.whole.value.address.target p.whole.value.origin.value (p.first == 0) records)
+    ap (λ (w : Whole). publication w.key.document w.key.target origin (p.first == 0) (map shown part)) same
+    ∙ (ap (λ (o : Option (List ℕ)). publication p.whole.value.key.document p.whole.value.key.target o (p.first == 0) (map shown part)) of_build
+    ∙ (ap (λ records. publication p.whole.value.key.document p.whole.value.key.target p.whole.value.origin.value (p.first == 0) records)
     (ap (map shown) is ∙ part_shown p.whole.value.list.value p.first)
     ∙ view))

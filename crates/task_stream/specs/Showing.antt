@@ -9,33 +9,33 @@ use Rattle.bsp_records.specs.Shown.{shown}
 use Rattle.bsp_records.specs.Table.{Table, table_with}
 use Rattle.bsp_records.specs.declared.diagnostics.DiagnosticRecord.{DiagnosticRecord}
 use Rattle.bsp_records.specs.declared.publishing.PublishDiagnosticsParams.{PublishDiagnosticsParams}
-use Rattle.task_stream.specs.contracts.shown.AddressPartialEq.TheImpl.{eq-value}
-use Rattle.task_stream.specs.declared.shown.Address.{Address}
+use Rattle.task_stream.specs.contracts.shown.TableKeyPartialEq.TheImpl.{eq-value}
+use Rattle.task_stream.specs.declared.shown.TableKey.{TableKey}
 use Rattle.task_stream.specs.declared.shown.Shown.{Shown}
 
-abbrev pub address_of : List ℕ → List ℕ → Address
-address_of document target = record { document = document; target = target }
+abbrev pub key_of : List ℕ → List ℕ → TableKey
+key_of document target = record { document = document; target = target }
 
 -- what is kept of a list, as it is shown; nothing is shown where none is kept
 abbrev pub shown_of : Option (Arc (List Diagnostic) Global) → List DiagnosticRecord
 shown_of None = []
 shown_of (Some list) = map shown list.value
 
--- the list that is shown at an address
+-- the list that is shown at a key
 abbrev pub shows : Shown → Table
-shows kept document target = shown_of (get eq-value.it kept.lists (address_of document target))
+shows kept document target = shown_of (get eq-value.it kept.lists (key_of document target))
 
-abbrev pub is_at : Address → List ℕ → List ℕ → Bool
-is_at address document target = pointwise ◌==◌ address.document document && pointwise ◌==◌ address.target target
+abbrev pub is_at : TableKey → List ℕ → List ℕ → Bool
+is_at key document target = pointwise ◌==◌ key.document document && pointwise ◌==◌ key.target target
 
--- the list at one address became this, and the others stayed
-abbrev pub ShowsNow : Shown → Shown → Address → List DiagnosticRecord → Type 0
-ShowsNow old new address records =
-    (document target : List ℕ) → shows new document target ≡ (if is_at address document target then records else shows old document target)
+-- the list at one key became this, and the others stayed
+abbrev pub ShowsNow : Shown → Shown → TableKey → List DiagnosticRecord → Type 0
+ShowsNow old new key records =
+    (document target : List ℕ) → shows new document target ≡ (if is_at key document target then records else shows old document target)
 
--- these publications, the first of them first, make any client show this list at one address by the
+-- these publications, the first of them first, make any client show this list at one key by the
 -- reset rule, and leave the others, if it shows there what is kept of it
-abbrev pub MakeShow : List PublishDiagnosticsParams → Shown → Address → List DiagnosticRecord → Type 0
-MakeShow ps old address records =
-    (table : Table) → table address.document address.target ≡ shows old address.document address.target
-    → (document target : List ℕ) → table_with ps table document target ≡ (if is_at address document target then records else table document target)
+abbrev pub MakeShow : List PublishDiagnosticsParams → Shown → TableKey → List DiagnosticRecord → Type 0
+MakeShow ps old key records =
+    (table : Table) → table key.document key.target ≡ shows old key.document key.target
+    → (document target : List ℕ) → table_with ps table document target ≡ (if is_at key document target then records else table document target)

@@ -20,16 +20,14 @@ IsShortDiagnostic d = IsShortPosition d.range.start × IsShortPosition d.range.e
 abbrev pub records_of : Whole → List DiagnosticRecord
 records_of whole = map shown whole.list.value
 
--- its texts are UTF-8
+-- its origin is UTF-8, and its names are ASCII
 pub record IsSoundWhole (whole : Whole) : Type 0 where
-  pub document : IsUtf8 whole.address.document
-  pub target : IsUtf8 whole.address.target
   pub origin : IfSome whole.origin.value IsUtf8
   pub names : All HasPlainName whole.list.value
 
 -- what a piece is written as
 abbrev pub piece_of : Inside → PublishDiagnosticsParams
-piece_of p = piece p.whole.value.address p.whole.value.origin.value (p.first == 0) (take diagnostics_limit (drop p.first (records_of p.whole.value)))
+piece_of p = piece p.whole.value.key p.whole.value.origin.value (p.first == 0) (take diagnostics_limit (drop p.first (records_of p.whole.value)))
 
 pub record IsSoundPiece (p : Inside) : Type 0 where
   pub sound : IsSoundWhole p.whole.value

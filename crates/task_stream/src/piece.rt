@@ -1,7 +1,7 @@
 ghost use Rattle.std.specs.Prelude.{◌≡◌, ◌≤◌, length, take, drop};
 ghost use Rattle.bsp_records.specs.Short.{diagnostics_limit};
 
-use crate::shown::Address;
+use crate::shown::TableKey;
 use bsp_records::print_publication;
 use ob_text::{Diagnostic, Items, NoMemory, Text};
 use std::alloc::Global;
@@ -14,7 +14,7 @@ pub(crate) const PIECE_LIMIT: usize = 100;
 /// A whole list that is published, which its pieces share.
 #[derive(Drop)]
 pub(crate) struct Whole {
-    pub address: Address,
+    pub key: TableKey,
     pub origin: Arc<Option<Text>>,
     pub list: Arc<Items<Diagnostic>>,
 }
@@ -52,7 +52,7 @@ impl Piece {
     pub(crate) fn new(whole: &Arc<Whole>, first: usize) -> Result<Piece, NoMemory>
         requires sound { IsSoundWhole whole.now.value }
         requires within { first ≤ length whole.now.value.list.value }
-        ensures { IfOk result (λ p. p ≡ piece whole.now.value.address whole.now.value.origin.value (first == 0)
+        ensures { IfOk result (λ p. p ≡ piece whole.now.value.key whole.now.value.origin.value (first == 0)
             (take diagnostics_limit (drop first (records_of whole.now.value)))) }
     {
         Ok(Piece {
@@ -67,7 +67,7 @@ impl Piece {
             ≡ out.old.items ++ compact_text (publish_diagnostics_params_data self.now)) }
     {
         let whole: &Whole = &self.whole;
-        let (document, target) = (&whole.address.document, &whole.address.target);
+        let (document, target) = (&whole.key.document, &whole.key.target);
         let list = part(&whole.list, self.first);
         print_publication(
             alloc,

@@ -3,7 +3,8 @@ ghost use Rattle.std.specs.List.{All};
 ghost use Rattle.std.specs.Str.{IsUtf8};
 ghost use Rattle.ob_text.specs.Ascii.{IsWithin};
 ghost use Rattle.bsp_records.specs.Limits.{origin_limit};
-ghost use Rattle.bsp_records.specs.Short.{IsShortAddress, IsShortPosition, IsShortPublication};
+ghost use Rattle.bsp_address.specs.Address.{IsAddress};
+ghost use Rattle.bsp_records.specs.Short.{IsShortPosition, IsShortPublication};
 ghost use Rattle.bsp_records.specs.Shown.{shown, HasPlainName};
 ghost use Rattle.task_stream.specs.Pieces.{pieces, IsPiece};
 ghost use Rattle.task_stream.specs.Showing.{shows, MakeShow, ShowsNow};
@@ -11,36 +12,39 @@ ghost use Rattle.task_stream.specs.Waiting.{IsShortDiagnostic, IsSoundWhole, rec
 
 use crate::piece::{PIECE_LIMIT, Piece, Whole};
 use crate::same::same_shown;
+use bsp_address::Address;
 use indexmap::IndexMap;
 use ob_text::{Diagnostic, Items, NoMemory, Range, Text};
 use std::alloc::Global;
 use std::sync::Arc;
 
-/// The address of a document, and the id of a target that has it. A client shows diagnostics for both
-/// together (Build Server Protocol 2.2, build/publishDiagnostics).
+/// What a client's table is keyed by: the address of a document, and the id of a target that has it. A client shows
+/// diagnostics for both together (Build Server Protocol 2.2, build/publishDiagnostics).
 #[derive(Debug, Drop, PartialEq, Eq, Hash)]
-pub struct Address {
-    pub document: Text,
-    pub target: Text,
+pub struct TableKey {
+    pub document: Address,
+    pub target: Address,
 }
 
-impl Address {
+impl TableKey {
     /// An equal value of its own.
-    pub fn copy(&self, alloc: Global) -> Result<Address, NoMemory>
-        ensures { IfOk result (λ a. a ≡ self.now) }
+    pub fn copy(&self, alloc: Global) -> Result<TableKey, NoMemory>
+        ensures same { IfOk result (λ key. key ≡ self.now) }
+        ensures document { IfOk result (λ key. IsAddress key.document) }
+        ensures target { IfOk result (λ key. IsAddress key.target) }
     {
-        Ok(Address {
+        Ok(TableKey {
             document: self.document.copy(alloc)?,
             target: self.target.copy(alloc)?,
         })
     }
 }
 
-/// The list that a client shows for each address to which one was published.
+/// The list that a client shows at each key at which one was published.
 #[derive(Drop)]
 pub struct Shown {
     alloc: Global,
-    lists: IndexMap<Address, Arc<Items<Diagnostic>>>,
+    lists: IndexMap<TableKey, Arc<Items<Diagnostic>>>,
 }
 
 impl Shown {
@@ -60,46 +64,43 @@ impl Shown {
     #[tactic(auto, using(crate::proofs::PieceLaws::none_make))]
     pub fn publish(
         &mut self,
-        address: &Address,
+        key: &TableKey,
         origin: &Arc<Option<Text>>,
         list: Vec<Diagnostic>,
     ) -> Result<Vec<Piece>, NoMemory>
-        requires document { IsUtf8 address.now.document }
-        requires target { IsUtf8 address.now.target }
         requires origin { IfSome origin.now.value IsUtf8 }
         requires names { All HasPlainName list.items }
-        ensures same { IfOk result (λ ps. shows self.old address.now.document address.now.target
+        ensures same { IfOk result (λ ps. shows self.old key.now.document key.now.target
             ≡ map shown list.items → ps.items ≡ []) }
-        ensures other { IfOk result (λ ps. shows self.old address.now.document address.now.target
+        ensures other { IfOk result (λ ps. shows self.old key.now.document key.now.target
             ≢ map shown list.items
-            → ps.items ≡ pieces address.now origin.now.value (map shown list.items)) }
+            → ps.items ≡ pieces key.now origin.now.value (map shown list.items)) }
         ensures none { IfOk result (λ ps. ps.items ≡ []
-            → shows self.old address.now.document address.now.target ≡ map shown list.items) }
-        ensures client { IfOk result (λ ps. MakeShow ps.items self.old address.now
+            → shows self.old key.now.document key.now.target ≡ map shown list.items) }
+        ensures client { IfOk result (λ ps. MakeShow ps.items self.old key.now
             (map shown list.items)) }
-        ensures table { OnOk result (ShowsNow self.old self.new address.now (map shown list.items)) }
+        ensures table { OnOk result (ShowsNow self.old self.new key.now (map shown list.items)) }
         ensures few { IfOk result (λ ps. All IsPiece ps.items) }
-        ensures short { IsShortAddress address.now.document → IsShortAddress address.now.target
-            → IfSome origin.now.value (IsWithin origin_limit)
+        ensures short { IfSome origin.now.value (IsWithin origin_limit)
             → IfOk result (λ ps. All IsShortPublication ps.items) }
         ensures err { OnErr result ((document target : List ℕ)
             → shows self.new document target ≡ shows self.old document target) }
     {
-        if self.is_shown(address, list.as_slice()) {
+        if self.is_shown(key, list.as_slice()) {
             return Ok(Vec::new(self.alloc));
         }
         let list = Arc::new(self.alloc, fitted(list))?;
-        let pieces = pieces_of(self.alloc, address, origin, &list)?;
-        let key = address.copy(self.alloc)?;
-        self.lists.insert(key, list)?;
+        let pieces = pieces_of(self.alloc, key, origin, &list)?;
+        let own = key.copy(self.alloc)?;
+        self.lists.insert(own, list)?;
         Ok(pieces)
     }
 
-    fn is_shown(&self, address: &Address, list: &[Diagnostic]) -> bool
+    fn is_shown(&self, key: &TableKey, list: &[Diagnostic]) -> bool
         ensures { IsTrue result
-            ↔ (shows self.now address.now.document address.now.target ≡ map shown list.now) }
+            ↔ (shows self.now key.now.document key.now.target ≡ map shown list.now) }
     {
-        match self.lists.get(address) {
+        match self.lists.get(key) {
             Some(kept) => same_shown(kept.as_slice(), list),
             None => list.is_empty(),
         }
@@ -131,22 +132,20 @@ fn read_range(range: Range)
     ensures end { IsShortPosition range.end }
 {}
 
-/// The pieces of a list for an address.
+/// The pieces of a list at a key.
 fn pieces_of(
     alloc: Global,
-    address: &Address,
+    key: &TableKey,
     origin: &Arc<Option<Text>>,
     list: &Arc<Items<Diagnostic>>,
 ) -> Result<Vec<Piece>, NoMemory>
-    requires document { IsUtf8 address.now.document }
-    requires target { IsUtf8 address.now.target }
     requires origin { IfSome origin.now.value IsUtf8 }
     requires names { All HasPlainName list.now.value }
     ensures { IfOk result (λ ps. ps.items
-        ≡ pieces address.now origin.now.value (map shown list.now.value)) }
+        ≡ pieces key.now origin.now.value (map shown list.now.value)) }
 {
     let whole = Whole {
-        address: address.copy(alloc)?,
+        key: key.copy(alloc)?,
         origin: origin.clone()?,
         list: list.clone()?,
     };
@@ -157,7 +156,7 @@ fn pieces_of(
 fn cut(alloc: Global, whole: Whole) -> Result<Vec<Piece>, NoMemory>
     requires { IsSoundWhole whole }
     ensures { IfOk result (λ ps. ps.items
-        ≡ pieces whole.address whole.origin.value (records_of whole)) }
+        ≡ pieces whole.key whole.origin.value (records_of whole)) }
 {
     let count = whole.list.as_slice().len();
     let whole = Arc::new(alloc, whole)?;

@@ -19,15 +19,15 @@ pieces-init c =
     let count = length c.as_slice-count.result.now in
     let listed : c.as_slice-count.result.now ≡ whole.list.value = c.as_slice-count.ensures ∙ c.deref.ensures in
     let size : length records ≡ count = length-map whole.list.value shown ∙ sym (ap (λ (l : List Diagnostic). length l) listed) in
-    let own : c.in_ok-new.field-0 ≡ piece whole.address whole.origin.value true (take diagnostics_limit (drop 0 records)) =
-    c.in_ok-new.ensures ∙ ap (λ (w : Whole). piece w.address w.origin.value true (take diagnostics_limit (drop 0 (records_of w)))) c.in_ok-whole.ensures.ok in
-    let items : c.push.new.self.items ≡ piece whole.address whole.origin.value true (take diagnostics_limit (drop 0 records)) ∷ [] =
+    let own : c.in_ok-new.field-0 ≡ piece whole.key whole.origin.value true (take diagnostics_limit (drop 0 records)) =
+    c.in_ok-new.ensures ∙ ap (λ (w : Whole). piece w.key w.origin.value true (take diagnostics_limit (drop 0 (records_of w)))) c.in_ok-whole.ensures.ok in
+    let items : c.push.new.self.items ≡ piece whole.key whole.origin.value true (take diagnostics_limit (drop 0 records)) ∷ [] =
     c.in_ok-push.ensures.items
     ∙ (ap (λ (l : List PublishDiagnosticsParams). l ++ c.in_ok-new.field-0 ∷ []) c.new-pieces.ensures.items ∙ ap (λ (p : PublishDiagnosticsParams). p ∷ []) own) in
     record {
       some = λ more. omega (arith, more, c.min.ensures);
-      goes_on = ap (λ (l : List PublishDiagnosticsParams). l ++ pieces_left whole.address whole.origin.value records count (count - c.min.result)) items
-          ∙ first_piece whole.address whole.origin.value records count size c.min.result c.min.ensures;
+      goes_on = ap (λ (l : List PublishDiagnosticsParams). l ++ pieces_left whole.key whole.origin.value records count (count - c.min.result)) items
+          ∙ first_piece whole.key whole.origin.value records count size c.min.result c.min.ensures;
     }
 
 pub pieces-preserved : goal.pieces-preserved
@@ -38,13 +38,13 @@ pieces-preserved c =
     let left = c.pieces.left in
     let listed : c.as_slice-count.result.now ≡ whole.list.value = c.as_slice-count.ensures ∙ c.deref.ensures in
     let size : length records ≡ count = length-map whole.list.value shown ∙ sym (ap (λ (l : List Diagnostic). length l) listed) in
-    let own : c.in_ok-new-2.field-0 ≡ piece whole.address whole.origin.value (count - left == 0) (take diagnostics_limit (drop (count - left) records)) =
-    c.in_ok-new-2.ensures ∙ ap (λ (w : Whole). piece w.address w.origin.value (count - left == 0) (take diagnostics_limit (drop (count - left) (records_of w)))) c.in_ok-whole.ensures.ok in
+    let own : c.in_ok-new-2.field-0 ≡ piece whole.key whole.origin.value (count - left == 0) (take diagnostics_limit (drop (count - left) records)) =
+    c.in_ok-new-2.ensures ∙ ap (λ (w : Whole). piece w.key w.origin.value (count - left == 0) (take diagnostics_limit (drop (count - left) (records_of w)))) c.in_ok-whole.ensures.ok in
     let items = c.in_ok-push-2.ensures.items ∙ ap (λ (p : PublishDiagnosticsParams). c.pieces.pieces.items ++ p ∷ []) own in
     record {
       some = λ more. omega (arith, more, c.min-in-pieces.ensures, c.pieces-test.true, c.pieces.invariant.some c.pieces-test.true);
-      goes_on = ap (λ (l : List PublishDiagnosticsParams). l ++ pieces_left whole.address whole.origin.value records count (left - c.min-in-pieces.result)) items
-          ∙ (next_piece whole.address whole.origin.value records count size c.pieces.pieces.items left c.min-in-pieces.result c.min-in-pieces.ensures c.pieces-test.true
+      goes_on = ap (λ (l : List PublishDiagnosticsParams). l ++ pieces_left whole.key whole.origin.value records count (left - c.min-in-pieces.result)) items
+          ∙ (next_piece whole.key whole.origin.value records count size c.pieces.pieces.items left c.min-in-pieces.result c.min-in-pieces.ensures c.pieces-test.true
           (c.pieces.invariant.some c.pieces-test.true)
           ∙ c.pieces.invariant.goes_on);
     }

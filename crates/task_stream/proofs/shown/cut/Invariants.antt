@@ -12,6 +12,6 @@ invariant-pieces l =
     record {
       -- the first piece was made
       some : 0 < l.left → l.left < l.count;
-      goes_on : l.pieces.items ++ pieces_left l.fn.whole.address l.fn.whole.origin.value (records_of l.fn.whole) l.count l.left
-          ≡ pieces l.fn.whole.address l.fn.whole.origin.value (records_of l.fn.whole);
+      goes_on : l.pieces.items ++ pieces_left l.fn.whole.key l.fn.whole.origin.value (records_of l.fn.whole) l.count l.left
+          ≡ pieces l.fn.whole.key l.fn.whole.origin.value (records_of l.fn.whole);
     }
