@@ -83,28 +83,43 @@ fn knows_addresses(rt: HostRuntime) -> Result<(), Fail> {
     Ok(())
 }
 
-#[test]
-fn publishes_in_pieces_what_is_not_shown(rt: HostRuntime) -> Result<(), Fail> {
-    let alloc = rt.alloc();
-    let key = TableKey {
+fn key(alloc: Global) -> Result<TableKey, Fail> {
+    Ok(TableKey {
         document: address(alloc, "file:///w/A.Mod")?,
         target: address(alloc, "file:///w/?id=app")?,
-    };
-    let mut shown = Shown::new(alloc);
+    })
+}
+
+/// Publishes so many bad characters.
+fn publish(alloc: Global, shown: &mut Shown, count: u32) -> Result<Vec<Piece>, Fail> {
+    let key = key(alloc)?;
     let origin = Arc::new(alloc, None)?;
-    let pieces = shown.publish(&key, &origin, many(alloc, 250)?)?;
-    assert_eq!(rt; pieces.len(), 3);
-    let first = params(alloc, &pieces.as_slice()[0])?;
-    let second = params(alloc, &pieces.as_slice()[1])?;
-    let last = params(alloc, &pieces.as_slice()[2])?;
-    assert_eq!(rt; first.diagnostics.as_slice().len(), 100);
-    assert_eq!(rt; last.diagnostics.as_slice().len(), 50);
-    assert!(rt; first.reset);
-    assert!(rt; !second.reset);
-    assert_eq!(rt;
-        shown.publish(&key, &origin, many(alloc, 250)?)?.len(),
-        0
-    );
-    assert_eq!(rt; shown.publish(&key, &origin, many(alloc, 0)?)?.len(), 1);
+    let list = many(alloc, count)?;
+    Ok(shown.publish(&key, &origin, list)?)
+}
+
+/// Does a piece reset so, and have so many diagnostics?
+fn is_piece(alloc: Global, piece: &Piece, reset: bool, count: usize) -> Result<bool, Fail> {
+    let params = params(alloc, piece)?;
+    Ok(params.reset == reset && params.diagnostics.as_slice().len() == count)
+}
+
+/// How many bad characters are published one after another, and of each piece whether it resets and how many it has.
+const PUBLISHED: [(u32, &[(bool, usize)]); 3] = [
+    (250, &[(true, 100), (false, 100), (false, 50)]),
+    (250, &[]),
+    (0, &[(true, 0)]),
+];
+
+#[test]
+fn publishes_in_pieces_what_is_not_shown(rt: HostRuntime) -> Result<(), Fail> {
+    let mut shown = Shown::new(rt.alloc());
+    for (count, wanted) in PUBLISHED {
+        let pieces = publish(rt.alloc(), &mut shown, count)?;
+        assert_eq!(rt; pieces.len(), wanted.len(), "{count}");
+        for (piece, (reset, length)) in pieces.iter().zip(wanted) {
+            assert!(rt; is_piece(rt.alloc(), piece, *reset, *length)?, "{count}");
+        }
+    }
     Ok(())
 }
