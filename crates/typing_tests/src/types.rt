@@ -72,25 +72,44 @@ fn assignability(rt: HostRuntime) -> Result<(), Fail> {
     Ok(())
 }
 
+/// A record with fields of its own and of its base.
+fn derived(alloc: Global) -> Result<Arc<RecordTy>, NoMemory> {
+    let base = record(alloc, "Base", None, &["x", "Shown"])?;
+    record(alloc, "Derived", Some(base), &["y"])
+}
+
+/// Does a module see a field of a record by this name?
+fn is_seen(alloc: Global, module: &str, field: &str, ty: &RecordTy) -> Result<bool, NoMemory> {
+    let module = Name::new(alloc, module.as_bytes())?;
+    let field = Name::new(alloc, field.as_bytes())?;
+    Ok(field_of(&module, &field, ty).is_some())
+}
+
 #[test]
 fn fields(rt: HostRuntime) -> Result<(), Fail> {
-    let alloc = rt.alloc();
-    let base = record(alloc, "Base", None, &["x", "Shown"])?;
-    let derived = record(alloc, "Derived", Some(base), &["y"])?;
-    let own = Name::new(alloc, b"M")?;
-    let other = Name::new(alloc, b"N")?;
+    let derived = derived(rt.alloc())?;
     for (name, in_own, in_other) in [
         ("x", true, false),
         ("Shown", true, true),
         ("y", true, false),
         ("z", false, false),
     ] {
-        let name = Name::new(alloc, name.as_bytes())?;
-        assert_eq!(rt; field_of(&own, &name, &derived).is_some(), in_own);
-        assert_eq!(rt; field_of(&other, &name, &derived).is_some(), in_other);
+        assert_eq!(rt; is_seen(rt.alloc(), "M", name, &derived)?, in_own, "{name}");
+        assert_eq!(rt;
+            is_seen(rt.alloc(), "N", name, &derived)?,
+            in_other,
+            "{name}"
+        );
     }
-    assert!(rt; sees(&own, &derived.origin, false) && !sees(&other, &derived.origin, false));
     assert_eq!(rt; size_of(&Ty::Record(derived)), 3);
+    Ok(())
+}
+
+#[test]
+fn hidden_fields(rt: HostRuntime) -> Result<(), Fail> {
+    let derived = derived(rt.alloc())?;
+    assert!(rt; sees(&Name::new(rt.alloc(), b"M")?, &derived.origin, false));
+    assert!(rt; !sees(&Name::new(rt.alloc(), b"N")?, &derived.origin, false));
     Ok(())
 }
 
@@ -114,42 +133,68 @@ fn limits(rt: HostRuntime) -> Result<(), Fail> {
     Ok(())
 }
 
-#[test]
-fn copies(rt: HostRuntime) -> Result<(), Fail> {
-    let alloc = rt.alloc();
+/// Of one VAR parameter and a result.
+fn signature(alloc: Global) -> Result<Signature, NoMemory> {
     let mut params = Vec::new(alloc);
     params.push(Param {
         by_var: true,
         ty: Ty::Str(2),
     })?;
-    let signature = Signature {
+    Ok(Signature {
         params,
         result_type: Some(Ty::Set),
-    };
-    let copy = signature.copy(alloc)?;
+    })
+}
+
+#[test]
+fn copies_signatures(rt: HostRuntime) -> Result<(), Fail> {
+    let copy = signature(rt.alloc())?.copy(rt.alloc())?;
     assert!(rt;
         copy.params
             .iter()
             .all(|param| param.by_var && same_type(&param.ty, &Ty::Str(2)))
     );
     assert!(rt; copy.result_type.is_some_and(|ty| same_type(&ty, &Ty::Set)));
-    let mut entities = IndexMap::new(alloc);
-    for (name, entity) in [
-        (b"c", Entity::Constant(Value::Integer(7))),
-        (b"p", Entity::Proc(signature)),
-        (b"t", Entity::TypeName(Ty::Byte)),
-        (b"v", Entity::Variable(Ty::Byte)),
-    ] {
-        entities.insert(Name::new(alloc, name)?, entity.copy(alloc)?)?;
-    }
-    let view = View::Exports(Arc::new(alloc, Exports { entities })?);
+    Ok(())
+}
+
+fn add_entity(
+    alloc: Global,
+    exports: &mut Exports,
+    name: &str,
+    entity: Entity,
+) -> Result<(), NoMemory> {
+    let name = Name::new(alloc, name.as_bytes())?;
+    exports.entities.insert(name, entity.copy(alloc)?)?;
+    Ok(())
+}
+
+/// A view with an entity of each kind.
+fn view(alloc: Global) -> Result<View, NoMemory> {
+    let mut exports = Exports {
+        entities: IndexMap::new(alloc),
+    };
+    add_entity(
+        alloc,
+        &mut exports,
+        "c",
+        Entity::Constant(Value::Integer(7)),
+    )?;
+    add_entity(alloc, &mut exports, "p", Entity::Proc(signature(alloc)?))?;
+    add_entity(alloc, &mut exports, "t", Entity::TypeName(Ty::Byte))?;
+    add_entity(alloc, &mut exports, "v", Entity::Variable(Ty::Byte))?;
+    Ok(View::Exports(Arc::new(alloc, exports)?))
+}
+
+#[test]
+fn copies_views(rt: HostRuntime) -> Result<(), Fail> {
+    let view = view(rt.alloc())?;
     assert!(rt; matches!(&view.copy()?, View::Exports(exports) if exports.entities.len() == 4));
     assert!(rt; matches!(View::Cyclic.copy()?, View::Cyclic));
     Ok(())
 }
 
 fn fifteen(alloc: Global) -> Result<Vec<Ty>, NoMemory> {
-    let base = record(alloc, "A", None, &["x"])?;
     let mut types = Vec::new(alloc);
     for ty in [
         Ty::Unknown,
@@ -163,16 +208,26 @@ fn fifteen(alloc: Global) -> Result<Vec<Ty>, NoMemory> {
     ] {
         types.push(ty)?;
     }
+    add_arrays(alloc, &mut types)?;
+    add_records(alloc, &mut types)?;
+    Ok(types)
+}
+
+fn add_arrays(alloc: Global, types: &mut Vec<Ty>) -> Result<(), NoMemory> {
     types.push(array(alloc, 3, Ty::Char)?)?;
     types.push(array(alloc, 4, Ty::Char)?)?;
     types.push(array(alloc, 4, Ty::Unknown)?)?;
-    types.push(Ty::Open {
-        element: Arc::new(alloc, Ty::Char)?,
-    })?;
+    let element = Arc::new(alloc, Ty::Char)?;
+    types.push(Ty::Open { element })?;
+    Ok(())
+}
+
+fn add_records(alloc: Global, types: &mut Vec<Ty>) -> Result<(), NoMemory> {
+    let base = record(alloc, "A", None, &["x"])?;
     types.push(Ty::Record(base.clone()?))?;
     types.push(Ty::Record(record(alloc, "B", Some(base), &["y"])?))?;
     types.push(Ty::Record(record(alloc, "C", None, &["x"])?))?;
-    Ok(types)
+    Ok(())
 }
 
 fn array(alloc: Global, length: u32, element: Ty) -> Result<Ty, NoMemory> {
@@ -182,20 +237,18 @@ fn array(alloc: Global, length: u32, element: Ty) -> Result<Ty, NoMemory> {
     })
 }
 
-/// A record of the module M with INTEGER fields. Those with a capital are exported.
-fn record(
-    alloc: Global,
-    name: &str,
-    base: Option<Arc<RecordTy>>,
-    names: &[&str],
-) -> Result<Arc<RecordTy>, NoMemory> {
-    let me = Name::new(alloc, b"M")?;
-    let origin = Origin {
-        module: me.copy(alloc)?,
+/// The origin of a type that the module M declares.
+fn origin(alloc: Global, name: &str) -> Result<Origin, NoMemory> {
+    Ok(Origin {
+        module: Name::new(alloc, b"M")?,
         procedure: None,
         name: Name::new(alloc, name.as_bytes())?,
         path: Items::from_vec(Vec::new(alloc)),
-    };
+    })
+}
+
+/// INTEGER fields. Those with a capital are exported.
+fn fields_of(alloc: Global, names: &[&str]) -> Result<Vec<Field>, NoMemory> {
     let mut fields = Vec::new(alloc);
     for name in names {
         fields.push(Field {
@@ -204,6 +257,19 @@ fn record(
             ty: Ty::Integer,
         })?;
     }
+    Ok(fields)
+}
+
+/// A record of the module M with such fields.
+fn record(
+    alloc: Global,
+    name: &str,
+    base: Option<Arc<RecordTy>>,
+    names: &[&str],
+) -> Result<Arc<RecordTy>, NoMemory> {
+    let me = Name::new(alloc, b"M")?;
+    let origin = origin(alloc, name)?;
+    let fields = fields_of(alloc, names)?;
     match record_type(alloc, &me, origin, base, fields)? {
         Some(Ty::Record(made)) => Ok(made),
         _ => Err(NoMemory),
