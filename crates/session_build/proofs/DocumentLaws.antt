@@ -1,4 +1,4 @@
--- The documents of a build: those of the pairs of its closure, each at an address of its own.
+-- The documents of a build: those of the pairs of its closure, each with a key of its own.
 use Rattle.std.proofs.Common.{◌≡◌, ◌≢◌, ◌+◌, ◌++◌, ◌∷◌, ℕ, ◌<◌, List, [], Bool, true, false, cond, length, get_or, map, filter, take, ap, sym, subst, ◌∙◌, refl, arith}
 use Rattle.std.specs.List.{AllPairs}
 use Rattle.std.proofs.lemmas.List.{get_or-map, length-map, map-append, append-nil}
@@ -9,7 +9,7 @@ use Rattle.session_law.specs.declared.BuildDocument.{BuildDocument}
 use Rattle.target_graph.specs.Workspace.{Space}
 use Rattle.target_graph.specs.declared.target.Pair.{Pair}
 use Rattle.target_graph.proofs.Distinct.{AreApart}
-use Rattle.task_stream.specs.declared.shown.Address.{Address}
+use Rattle.task_stream.specs.declared.shown.TableKey.{TableKey}
 
 -- ---- one pair after another
 
@@ -34,7 +34,7 @@ module _ (space : Space) (closure : List ℕ) (pairs : List Pair) where
       → documents ≡ first_documents (i + 1)
   one_left i pair documents h e is are = are ∙ (sym (append-nil (first_documents i)) ∙ sym (more i pair false h e is))
 
--- ---- the addresses
+-- ---- the keys
 
 map_distinct : {X Y : Type 0} (f : X → Y) (xs : List X) → AllPairs (λ x y. f x ≢ f y) xs → AllPairs ◌≢◌ (map f xs)
 map_distinct f [] apart i j d h k = absurd (omega arith)
@@ -44,17 +44,17 @@ map_distinct f (x ∷ xs) apart i j d h k =
     let h' : i < length (x ∷ xs) = omega arith in
     λ same. apart i j x h k' (sym (get_or-map f (x ∷ xs) i x d h') ∙ (same ∙ get_or-map f (x ∷ xs) j x d k'))
 
-abbrev address_at : Space → Pair → Address
-address_at space pair = (build_document space pair).address
+abbrev key_at : Space → Pair → TableKey
+key_at space pair = (build_document space pair).key
 
 pub distinct_documents : (space : Space) (keep : Pair → Bool) (pairs : List Pair) → AllPairs (AreApart space) pairs
-    → AllPairs ◌≢◌ (map (λ (it : BuildDocument). it.address) (map (build_document space) (filter keep pairs)))
+    → AllPairs ◌≢◌ (map (λ (it : BuildDocument). it.key) (map (build_document space) (filter keep pairs)))
 distinct_documents space keep pairs apart =
-    subst (λ (xs : List Address). AllPairs ◌≢◌ xs) (fused (filter keep pairs))
-    (map_distinct (address_at space) (filter keep pairs)
+    subst (λ (xs : List TableKey). AllPairs ◌≢◌ xs) (fused (filter keep pairs))
+    (map_distinct (key_at space) (filter keep pairs)
     (λ i j d h k same.
-    AllPairs-filter (AreApart space) keep pairs apart i j d h k (ap (λ (a : Address). a.document) same) (ap (λ (a : Address). a.target) same)))
+    AllPairs-filter (AreApart space) keep pairs apart i j d h k (ap (λ (a : TableKey). a.document) same) (ap (λ (a : TableKey). a.target) same)))
   where
-    fused : (ps : List Pair) → map (address_at space) ps ≡ map (λ (it : BuildDocument). it.address) (map (build_document space) ps)
+    fused : (ps : List Pair) → map (key_at space) ps ≡ map (λ (it : BuildDocument). it.key) (map (build_document space) ps)
     fused [] = refl
-    fused (p ∷ ps) = ap (λ xs. address_at space p ∷ xs) (fused ps)
+    fused (p ∷ ps) = ap (λ xs. key_at space p ∷ xs) (fused ps)

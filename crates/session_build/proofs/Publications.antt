@@ -36,7 +36,7 @@ use Rattle.session_build.specs.Publishing.{IsNotice, IsPublished, IsPublishedOne
 use Rattle.session_build.proofs.RoundTrip.{publication_back}
 use Rattle.task_stream.specs.Pieces.{pieces}
 use Rattle.task_stream.specs.Showing.{is_at}
-use Rattle.task_stream.specs.declared.shown.Address.{Address}
+use Rattle.task_stream.specs.declared.shown.TableKey.{TableKey}
 
 -- ---- one message after another
 
@@ -65,17 +65,17 @@ table_same (m ∷ messages) a b same = table_same messages (shown_by m a) (shown
 -- what is published is the same where the tables show the same
 publishes_same : (a b : Table) (origin : Option (List ℕ)) (finding : Finding) (messages : List Said) → Same a b → Publishes a origin finding messages → Publishes b origin finding messages
 publishes_same a b origin finding messages same publishes = record {
-  same = λ shows. publishes.same (same finding.document.address.document finding.document.address.target ∙ shows);
-  other = λ differs. publishes.other (λ shows. differs (sym (same finding.document.address.document finding.document.address.target) ∙ shows));
+  same = λ shows. publishes.same (same finding.document.key.document finding.document.key.target ∙ shows);
+  other = λ differs. publishes.other (λ shows. differs (sym (same finding.document.key.document finding.document.key.target) ∙ shows));
 }
 
 -- ---- a further document
 
 abbrev IsApart : BuildDocument → BuildDocument → Type 0
-IsApart it earlier = is_at it.address earlier.address.document earlier.address.target ≡ false
+IsApart it earlier = is_at it.key earlier.key.document earlier.key.target ≡ false
 
 -- what was shown of the earlier documents still is
-shows_on : (mid new : Table) (it : BuildDocument) (findings : List Finding) → ((document target : List ℕ) → is_at it.address document target ≡ false → new document target ≡ mid document target)
+shows_on : (mid new : Table) (it : BuildDocument) (findings : List Finding) → ((document target : List ℕ) → is_at it.key document target ≡ false → new document target ≡ mid document target)
     → All (λ (f : Finding). IsApart it f.document) findings → All (Shows mid) findings → All (Shows new) findings
 shows_on mid new it findings elsewhere apart shows k d h =
     elsewhere _ _ (apart k d h) ∙ shows k d h
@@ -87,16 +87,16 @@ documents_all P (f ∷ findings) documents is all =
     All-cons (λ (f : Finding). P f.document) f findings (All-head P f.document (map (λ (f : Finding). f.document) findings) all')
     (documents_all P findings (map (λ (f : Finding). f.document) findings) refl (All-tail P f.document (map (λ (f : Finding). f.document) findings) all'))
 
-at_itself : (a : Address) → is_at a a.document a.target ≡ true
+at_itself : (a : TableKey) → is_at a a.document a.target ≡ true
 at_itself a = ap (λ x. x && bytes_eq a.target a.target) ((bytes_eq-Decides a.document a.document).1 refl) ∙ (bytes_eq-Decides a.target a.target).1 refl
 
 -- a document that is apart from those that were published isn't one of them
 fresh : (it : BuildDocument) (findings : List Finding) (finding : Finding) → finding.document ≡ it → All (λ (f : Finding). IsApart it f.document) findings → ¬ (Contains findings finding)
 fresh it findings finding is apart there =
     let own : IsApart it finding.document = All-contains (λ (f : Finding). IsApart it f.document) findings finding apart there in
-    let same : is_at it.address it.address.document it.address.target ≡ false =
+    let same : is_at it.key it.key.document it.key.target ≡ false =
     subst (λ (p : BuildDocument). IsApart it p) is own in
-    true≢false (sym (at_itself it.address) ∙ same)
+    true≢false (sym (at_itself it.key) ∙ same)
 
 pub none_published : (table : Table) (origin : Option (List ℕ)) (entries : Entries) → IsPublished table table [] origin entries [] false
 none_published table origin entries = record {
@@ -143,33 +143,33 @@ one_published old mid new documents it origin entries held before after failed o
     or_last true = refl
     or_last false = refl
 
--- ---- which addresses are apart
+-- ---- which keys are apart
 
-address_same : (a b : Address) → a.document ≡ b.document → a.target ≡ b.target → a ≡ b
-address_same a b document target = rw (document, target) refl
+key_same : (a b : TableKey) → a.document ≡ b.document → a.target ≡ b.target → a ≡ b
+key_same a b document target = rw (document, target) refl
 
-apart_at : (a b : Address) → (a ≡ b → ⊥) → is_at a b.document b.target ≡ false
+apart_at : (a b : TableKey) → (a ≡ b → ⊥) → is_at a b.document b.target ≡ false
 apart_at a b differs = by_tests (bytes_eq a.document b.document) (bytes_eq a.target b.target) refl refl
   where
     by_tests : (d t : Bool) → bytes_eq a.document b.document ≡ d → bytes_eq a.target b.target ≡ t → is_at a b.document b.target ≡ false
-    by_tests true true h k = absurd (differs (address_same a b ((bytes_eq-Decides a.document b.document).0 h) ((bytes_eq-Decides a.target b.target).0 k)))
+    by_tests true true h k = absurd (differs (key_same a b ((bytes_eq-Decides a.document b.document).0 h) ((bytes_eq-Decides a.target b.target).0 k)))
     by_tests true false h k = ap (λ x. x && bytes_eq a.target b.target) h ∙ k
     by_tests false t h k = ap (λ x. x && bytes_eq a.target b.target) h
 
 -- a document is apart from each before it
-pub apart_before : (documents : List BuildDocument) (i : ℕ) (it : BuildDocument) → i < length documents → it ≡ get_or documents i it → AllPairs ◌≢◌ (map (λ (p : BuildDocument). p.address) documents)
+pub apart_before : (documents : List BuildDocument) (i : ℕ) (it : BuildDocument) → i < length documents → it ≡ get_or documents i it → AllPairs ◌≢◌ (map (λ (p : BuildDocument). p.key) documents)
     → All (IsApart it) (take i documents)
 apart_before documents i it h e distinct k d k_in =
-    let size : length (map (λ (p : BuildDocument). p.address) documents) ≡ length documents = length-map documents (λ (p : BuildDocument). p.address) in
+    let size : length (map (λ (p : BuildDocument). p.key) documents) ≡ length documents = length-map documents (λ (p : BuildDocument). p.key) in
     let front : length (take i documents) ≡ i = length-take-le i documents (omega arith) in
     let below : k < i = omega (arith, front) in
     let earlier : BuildDocument = get_or (take i documents) k d in
     let is : earlier ≡ get_or documents k it = get_or-take i documents k d below ∙ get_or_default documents k d it (omega arith) in
-    let this : get_or (map (λ (p : BuildDocument). p.address) documents) i it.address ≡ it.address =
-    get_or-map (λ (p : BuildDocument). p.address) documents i it it.address h ∙ ap (λ (p : BuildDocument). p.address) (sym e) in
-    let that : get_or (map (λ (p : BuildDocument). p.address) documents) k it.address ≡ earlier.address =
-    get_or-map (λ (p : BuildDocument). p.address) documents k it it.address (omega arith) ∙ ap (λ (p : BuildDocument). p.address) (sym is) in
-    apart_at it.address earlier.address (λ same. distinct k i it.address below (omega (arith, size)) (that ∙ (sym same ∙ sym this)))
+    let this : get_or (map (λ (p : BuildDocument). p.key) documents) i it.key ≡ it.key =
+    get_or-map (λ (p : BuildDocument). p.key) documents i it it.key h ∙ ap (λ (p : BuildDocument). p.key) (sym e) in
+    let that : get_or (map (λ (p : BuildDocument). p.key) documents) k it.key ≡ earlier.key =
+    get_or-map (λ (p : BuildDocument). p.key) documents k it it.key (omega arith) ∙ ap (λ (p : BuildDocument). p.key) (sym is) in
+    apart_at it.key earlier.key (λ same. distinct k i it.key below (omega (arith, size)) (that ∙ (sym same ∙ sym this)))
 
 -- ---- one document
 
@@ -179,10 +179,10 @@ notices_of (p ∷ ps) = All-cons IsNotice (publication_said p) (map publication_
 
 pub one_shown : (old new : Table) (it : BuildDocument) (origin : Option (List ℕ)) (held : Held) (before after : List Said) (list : List Diagnostic) (ps : List PublishDiagnosticsParams) (failed : Bool)
     → Diagnosed held list
-    → (old it.address.document it.address.target ≡ map shown list → ps ≡ [])
-    → (old it.address.document it.address.target ≢ map shown list → ps ≡ pieces it.address origin (map shown list))
-    → ((document target : List ℕ) → tables.table_with ps old document target ≡ (if is_at it.address document target then map shown list else old document target))
-    → ((document target : List ℕ) → new document target ≡ (if is_at it.address document target then map shown list else old document target))
+    → (old it.key.document it.key.target ≡ map shown list → ps ≡ [])
+    → (old it.key.document it.key.target ≢ map shown list → ps ≡ pieces it.key origin (map shown list))
+    → ((document target : List ℕ) → tables.table_with ps old document target ≡ (if is_at it.key document target then map shown list else old document target))
+    → ((document target : List ℕ) → new document target ≡ (if is_at it.key document target then map shown list else old document target))
     → after ≡ before ++ map publication_said ps → All IsFramed (map publication_said ps)
     → failed ≡ list_any (λ (d : Diagnostic). is_error_severity (severity_of d.code)) list → IsPublishedOne old new it origin held before after failed
 one_shown old new it origin held before after list ps failed found same other client table messages framed failed_is =
@@ -199,8 +199,8 @@ one_shown old new it origin held before after list ps failed found same other cl
       notices = notices_of ps;
       kept = λ document target.
           table document target ∙ (sym (client document target) ∙ ap (λ (t : Table). t document target) (sym (all_shown ps old)));
-      shows = table it.address.document it.address.target
-          ∙ ap (λ b. if b then map shown list else old it.address.document it.address.target) (at_itself it.address);
+      shows = table it.key.document it.key.target
+          ∙ ap (λ b. if b then map shown list else old it.key.document it.key.target) (at_itself it.key);
       elsewhere = λ document target apart. table document target ∙ ap (λ b. if b then map shown list else old document target) apart;
       failed_is = failed_is;
     }

@@ -44,5 +44,5 @@ pub record IsPublishedOne (old new : Table) (it : BuildDocument) (origin : Optio
   pub kept : (document target : List ℕ) → new document target ≡ table_behind own old document target
   pub shows : Shows new (finding_of it list)
   -- what is shown elsewhere stays
-  pub elsewhere : (document target : List ℕ) → is_at it.address document target ≡ false → new document target ≡ old document target
+  pub elsewhere : (document target : List ℕ) → is_at it.key document target ≡ false → new document target ≡ old document target
   pub failed_is : failed ≡ has_error (finding_of it list)

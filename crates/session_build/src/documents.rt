@@ -4,7 +4,7 @@ ghost use Rattle.std.specs.Str.{bytes_eq};
 ghost use Rattle.indexmap.specs.IndexSet.{contains};
 ghost use Rattle.session_law.specs.Builds.{AreDocuments, build_document};
 ghost use Rattle.ob_text.specs.Once.{each_once, once_more};
-ghost use Rattle.session_build.specs.Documents.{HasPlainAddress, build_of};
+ghost use Rattle.session_build.specs.Documents.{build_of};
 ghost use Rattle.target_graph.specs.Workspace.{pairs_of};
 ghost use Rattle.target_graph.specs.declared.target.Pair.{Pair};
 
@@ -13,7 +13,7 @@ use ob_text::{Items, NoMemory, Path};
 use session_law::BuildDocument;
 use std::alloc::Global;
 use target_graph::Workspace;
-use task_stream::Address;
+use task_stream::TableKey;
 
 /// The documents of some targets and of all that they depend on, in the order of the workspace file.
 pub fn documents_of(
@@ -24,9 +24,8 @@ pub fn documents_of(
     requires { All (λ target. target < length workspace.now.targets) asked.now }
     ensures documents { IfOk result (λ documents. (origin : Option (List ℕ))
         → AreDocuments (build_of workspace.now asked.now origin) documents) }
-    ensures plain { IfOk result (All HasPlainAddress) }
-    // No two stand at one address.
-    ensures distinct { IfOk result (λ documents. AllPairs ◌≢◌ (map (λ document. document.address) documents)) }
+    // No two have one key.
+    ensures distinct { IfOk result (λ documents. AllPairs ◌≢◌ (map (λ document. document.key) documents)) }
 {
     let targets = workspace.closure(asked)?;
     let closure = set_of(alloc, targets.as_slice())?;
@@ -59,9 +58,8 @@ fn document_of_pair(
     pair: u32,
 ) -> Result<BuildDocument, NoMemory>
     requires { pair < length (pairs_of workspace.now.targets) }
-    ensures document { IfOk result (λ document. (at : Pair) → slice_get (pairs_of
+    ensures { IfOk result (λ document. (at : Pair) → slice_get (pairs_of
         workspace.now.targets) pair ≡ Some at → document ≡ build_document workspace.now at) }
-    ensures plain { IfOk result HasPlainAddress }
 {
     let at = &workspace.pairs()[pair as usize];
     let path = at.path.copy(alloc)?;
@@ -69,7 +67,7 @@ fn document_of_pair(
     let target = workspace.target_id(at.target)?;
     Ok(BuildDocument {
         path,
-        address: Address { document, target },
+        key: TableKey { document, target },
     })
 }
 

@@ -9,7 +9,6 @@ ghost use Rattle.oberon_check.specs.Diagnosed.{Diagnosed};
 ghost use Rattle.session_law.specs.Builds.{is_error_severity, publication_said};
 ghost use Rattle.session_build.specs.Outgoing.{outgoing_said};
 ghost use Rattle.session_build.specs.Handed.{held_or_absent};
-ghost use Rattle.session_build.specs.Documents.{HasPlainAddress};
 ghost use Rattle.session_build.specs.Publishing.{IsPublished, IsPublishedOne};
 ghost use Rattle.task_stream.specs.Showing.{shows};
 
@@ -38,8 +37,7 @@ pub fn publish_all(
     origin: &Option<Text>,
     snapshot: &Snapshot,
 ) -> Result<Published, NoMemory>
-    requires plain { All HasPlainAddress documents.now }
-    requires distinct { AllPairs ◌≢◌ (map (λ document. document.address) documents.now) }
+    requires distinct { AllPairs ◌≢◌ (map (λ document. document.key) documents.now) }
     requires origin { IfSome origin.now (IsTextWithin origin_limit) }
     requires texts { All (λ entry. IsReadable entry.1) snapshot.now.entries }
     ensures published { IfOk result (λ p. IsPublished (shows shown.old) (shows shown.new) documents.now
@@ -78,7 +76,6 @@ fn publish_one(
     held: Option<&Held>,
     messages: &mut VecDeque<Outgoing>,
 ) -> Result<bool, NoMemory>
-    requires plain { HasPlainAddress document.now }
     requires origin { IfSome origin.now.value (IsTextWithin origin_limit) }
     requires readable { IfSome held (λ held. IsReadable held.now) }
     ensures { IfOk result (IsPublishedOne (shows shown.old) (shows shown.new) document.now origin.now.value
@@ -87,7 +84,7 @@ fn publish_one(
 {
     let list = diagnose_held(alloc, held)?;
     let failed = has_error(list.as_slice());
-    let pieces = shown.publish(&document.address, origin, list)?;
+    let pieces = shown.publish(&document.key, origin, list)?;
     say_all(pieces, messages)?;
     Ok(failed)
 }

@@ -35,7 +35,7 @@ abbrev pub build_document : Space → Pair → BuildDocument
 build_document space pair =
     record {
       path = pair.path;
-      address = record { document = document_address space.root pair.path; target = id_of space pair.target };
+      key = record { document = document_address space.root pair.path; target = id_of space pair.target };
     }
 
 abbrev pub is_among : List ℕ → Pair → Bool
@@ -126,11 +126,11 @@ records_of list = map shown list
 
 -- the table shows the document's list
 abbrev pub Shows : Table → Finding → Type 0
-Shows table finding = table finding.document.address.document finding.document.address.target ≡ records_of finding.list
+Shows table finding = table finding.document.key.document finding.document.key.target ≡ records_of finding.list
 
 -- a document's whole list, in its pieces
 abbrev pub list_said : Option (List ℕ) → Finding → List Said
-list_said origin finding = map publication_said (pieces finding.document.address origin (records_of finding.list))
+list_said origin finding = map publication_said (pieces finding.document.key origin (records_of finding.list))
 
 -- what is published of one document: its list, unless the client shows it
 pub record Publishes (table : Table) (origin : Option (List ℕ)) (finding : Finding) (messages : List Said) : Type 0 where

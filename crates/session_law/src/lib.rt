@@ -7,13 +7,13 @@
 #![tactic(auto)]
 
 use ob_text::Path;
-use task_stream::Address;
+use task_stream::TableKey;
 
-/// A document in a target: its path in the workspace's folder, and where a client shows it.
+/// A document in a target: its path in the workspace's folder, and the key at which a client shows it.
 #[derive(Debug, Drop)]
 pub struct BuildDocument {
     pub path: Path,
-    pub address: Address,
+    pub key: TableKey,
 }
 
 /// How the input of a session ends.

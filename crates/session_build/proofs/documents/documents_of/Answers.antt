@@ -1,12 +1,10 @@
 use Rattle.std.proofs.Common.{◌≡◌, ◌≢◌, ◌==◌, ◌++◌, ◌∷◌, [], ◌<◌, ℕ, List, length, nat_eq, get_or, map, filter, take, ap, sym, subst, ◌∙◌, refl, arith}
-use Rattle.std.specs.List.{All, AllPairs, list_any}
+use Rattle.std.specs.List.{AllPairs, list_any}
 use Rattle.std.proofs.lemmas.List.{take_all}
-use Rattle.std.proofs.lemmas.List.Elements.{All-push}
 use Rattle.std.proofs.lemmas.Option.{slice_get_read}
 use Rattle.indexmap.specs.IndexSet.{contains}
 use Rattle.session_law.specs.Builds.{is_among, build_document}
 use Rattle.session_law.specs.declared.BuildDocument.{BuildDocument}
-use Rattle.session_build.specs.Documents.{HasPlainAddress}
 use Rattle.session_build.proofs.DocumentLaws.{distinct_documents, one_kept, one_left}
 use Rattle.target_graph.specs.Workspace.{pairs_of}
 use Rattle.target_graph.specs.declared.target.Pair.{Pair}
@@ -32,21 +30,14 @@ loop-pair-preserved c =
     elim c.if-contains.branch [
       | then-contains+in_ok-document_of_pair+in_ok-push w ↦
           let it : BuildDocument = w.in_ok-document_of_pair.field-0 in
-          let is : it ≡ build_document space pair = w.in_ok-document_of_pair.ensures.document pair (slice_get_read pairs (length pairs) i pair refl h e) in
+          let is : it ≡ build_document space pair = w.in_ok-document_of_pair.ensures pair (slice_get_read pairs (length pairs) i pair refl h e) in
           rw w.documents-is
-          (record {
-            are =
-                w.in_ok-push.ensures.items
-                ∙ (ap (λ (p : BuildDocument). documents ++ p ∷ []) is
-                ∙ one_kept space closure pairs i pair documents h e (sym among ∙ w.if-contains.true) c.loop-pair.invariant.are);
-            plain = subst (All HasPlainAddress) (sym w.in_ok-push.ensures.items) (All-push HasPlainAddress documents it c.loop-pair.invariant.plain w.in_ok-document_of_pair.ensures.plain);
-          })
+          (w.in_ok-push.ensures.items
+          ∙ (ap (λ (p : BuildDocument). documents ++ p ∷ []) is
+          ∙ one_kept space closure pairs i pair documents h e (sym among ∙ w.if-contains.true) c.loop-pair.invariant))
       | else-contains w ↦
           rw w.documents-is
-          (record {
-            are = one_left space closure pairs i pair documents h e (sym among ∙ w.if-contains.false) c.loop-pair.invariant.are;
-            plain = c.loop-pair.invariant.plain;
-          })
+          (one_left space closure pairs i pair documents h e (sym among ∙ w.if-contains.false) c.loop-pair.invariant)
     ]
 
 pub returns-clause-distinct : goal.returns-clause-distinct
@@ -58,6 +49,6 @@ returns-clause-distinct c =
     let size : length c.pairs-pair-end.result.now ≡ length pairs = ap (λ (ps : List Pair). length ps) c.pairs-pair-end.ensures.pairs in
     let all : take i pairs ≡ pairs = take_all i pairs (omega (arith, size)) in
     let are : c.from_vec.result ≡ map (build_document space) (filter (is_among closure) pairs) =
-    c.from_vec.ensures ∙ (c.loop-pair.invariant.are ∙ ap (λ (ps : List Pair). map (build_document space) (filter (is_among closure) ps)) all) in
-    subst (λ (ps : List BuildDocument). AllPairs ◌≢◌ (map (λ (it : BuildDocument). it.address) ps)) (sym are)
+    c.from_vec.ensures ∙ (c.loop-pair.invariant ∙ ap (λ (ps : List Pair). map (build_document space) (filter (is_among closure) ps)) all) in
+    subst (λ (ps : List BuildDocument). AllPairs ◌≢◌ (map (λ (it : BuildDocument). it.key) ps)) (sym are)
     (distinct_documents space (is_among closure) pairs (subst (λ (ps : List Pair). AllPairs (AreApart space) ps) c.pairs-pair-end.ensures.pairs c.pairs-pair-end.ensures.distinct))

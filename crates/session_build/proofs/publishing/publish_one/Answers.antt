@@ -1,25 +1,14 @@
-use Rattle.std.proofs.Common.{◌≤◌, ◌++◌, List, length, map, ap, sym, subst, ◌∙◌, refl, arith}
-use Rattle.std.specs.List.{All, list_any}
-use Rattle.std.proofs.lemmas.Str.{IsUtf8-from_ascii}
-use Rattle.bsp_records.specs.Short.{IsShortPublication}
+use Rattle.std.proofs.Common.{List, map, ap, ◌∙◌, refl}
+use Rattle.std.specs.List.{list_any}
 use Rattle.bsp_records.specs.declared.publishing.PublishDiagnosticsParams.{PublishDiagnosticsParams}
-use Rattle.ob_text.proofs.AsciiLaws.{graphic_ascii}
 use Rattle.ob_text.specs.Code.{severity_of}
 use Rattle.ob_text.specs.declared.diagnostic.Diagnostic.{Diagnostic}
-use Rattle.oberon_check.specs.Diagnosed.{Diagnosed}
 use Rattle.session_build.specs.Outgoing.{outgoing_said}
-use Rattle.session_law.specs.Builds.{is_error_severity, publication_said}
-use Rattle.session_law.specs.IsFramed.{IsFramed}
+use Rattle.session_law.specs.Builds.{is_error_severity}
 use Rattle.session_build.specs.Handed.{held_or_absent}
 use Rattle.session_build.proofs.Publications.{all_framed, one_shown, origin_within}
 use Rattle.task_stream.specs.Showing.{shows}
 use Rattle.session_build.proofs.publishing.publish_one.Goals as goal
-
-pub publish-requires-clause-document : goal.publish-requires-clause-document
-publish-requires-clause-document c = IsUtf8-from_ascii c.args.document.now.address.document (graphic_ascii c.args.document.now.address.document c.requires.plain.document.graphic)
-
-pub publish-requires-clause-target : goal.publish-requires-clause-target
-publish-requires-clause-target c = IsUtf8-from_ascii c.args.document.now.address.target (graphic_ascii c.args.document.now.address.target c.requires.plain.target.graphic)
 
 pub returns : goal.returns
 returns c =
@@ -27,11 +16,9 @@ returns c =
     let list : List Diagnostic = c.in_ok-list.list.items in
     let origin = c.args.origin.now.value in
     let pieces : List PublishDiagnosticsParams = c.in_ok-pieces.pieces.items in
-    let document : length it.address.document ≤ 4400 = (let h = c.requires.plain.document.short in omega (arith, h)) in
-    let target : length it.address.target ≤ 4400 = (let h = c.requires.plain.target.short in omega (arith, h)) in
     one_shown (shows c.args.shown.now) (shows c.publish.new.self) it origin (held_or_absent c.args.held) (map outgoing_said c.args.messages.now.items) (map outgoing_said c.say_all.new.messages.items)
     list pieces c.has_error-failed.result c.in_ok-list.ensures.found
     c.in_ok-pieces.ensures.same c.in_ok-pieces.ensures.other (c.in_ok-pieces.ensures.client (shows c.args.shown.now) refl) c.in_ok-pieces.ensures.table
     c.in_ok-say_all.ensures
-    (all_framed pieces (c.in_ok-pieces.ensures.short document target (origin_within origin 1024 c.requires.origin)))
+    (all_framed pieces (c.in_ok-pieces.ensures.short (origin_within origin 1024 c.requires.origin)))
     (c.has_error-failed.ensures ∙ ap (λ (ds : List Diagnostic). list_any (λ (d : Diagnostic). is_error_severity (severity_of d.code)) ds) c.as_slice.ensures.value)
