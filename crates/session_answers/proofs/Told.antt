@@ -11,13 +11,11 @@ use Rattle.std.proofs.lemmas.Str.{IsUtf8-from_ascii}
 use Rattle.std.proofs.lemmas.Str.Ascii.{IsAscii-nil, IsAscii-cons}
 use Rattle.ob_text.proofs.AsciiLaws.{graphic_ascii}
 use Rattle.ob_text.specs.Ascii.{IsGraphicWithin}
-use Rattle.bsp_records.specs.ShortAnswers.{IsShortId}
 use Rattle.bsp_records.specs.declared.results.BuildTarget.{BuildTarget}
 use Rattle.bsp_records.specs.declared.results.SourcesItem.{SourcesItem}
 use Rattle.session_answers.proofs.Once.{total, total_front, weighs_less, count_below, distinct_once, all_once, distinct_rising}
 use Rattle.ob_text.specs.Once.{each_once}
 use Rattle.session_law.specs.Questions.{described, identifier_at, modules_at, source_at, sources_at, tag_of}
-use Rattle.target_graph.specs.Address.{IsPlainAddress}
 use Rattle.target_graph.specs.Names.{is_name}
 use Rattle.target_graph.specs.Workspace.{Space, IsInverse}
 use Rattle.target_graph.specs.declared.target.Target.{Target}
@@ -25,13 +23,7 @@ use Rattle.target_graph.specs.declared.target.TargetKind.{TargetKind}
 use Rattle.target_graph.specs.declared.target.TargetKind.TheVariants.{Library, Application, Test}
 use Rattle.target_graph.proofs.PlainLaws.{plain_name}
 
--- ---- addresses and names
-
-pub address_text : (text : List ℕ) → IsPlainAddress text → IsUtf8 text
-address_text text plain = IsUtf8-from_ascii text (graphic_ascii text plain.graphic)
-
-pub address_short : (text : List ℕ) → IsPlainAddress text → IsShortId text
-address_short text plain = record { graphic = plain.graphic; short = (let s = plain.short in omega arith) }
+-- ---- names
 
 pub name_text : (name : List ℕ) → is_name name ≡ true → IsUtf8 name
 name_text name is = IsUtf8-from_ascii name (graphic_ascii name (plain_name name is).graphic)

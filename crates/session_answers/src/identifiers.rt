@@ -10,7 +10,6 @@ use std::alloc::Global;
 use target_graph::Workspace;
 
 /// The id of a target.
-#[tactic(auto, using(crate::proofs::Told::address_text, crate::proofs::Told::address_short))]
 pub(crate) fn identifier(
     workspace: &Workspace,
     target: u32,
@@ -20,7 +19,7 @@ pub(crate) fn identifier(
     ensures texts { IfOk result IsTarget }
     ensures short { IfOk result IsShortIdentifier }
 {
-    let uri = workspace.target_id(target)?;
+    let uri = workspace.target_id(target)?.into_text();
     Ok(BuildTargetIdentifier { uri })
 }
 

@@ -92,7 +92,6 @@ fn sources_of(
 }
 
 /// The document at this path.
-#[tactic(auto, using(crate::proofs::Told::address_text, crate::proofs::Told::address_short))]
 fn source_at(workspace: &Workspace, path: &Path) -> Result<SourceItem, NoMemory>
     requires { is_path path.now ≡ true }
     ensures is { IfOk result (λ source. source ≡ source_at workspace.now path.now) }
@@ -100,7 +99,7 @@ fn source_at(workspace: &Workspace, path: &Path) -> Result<SourceItem, NoMemory>
     ensures short { IfOk result IsShortSource }
 {
     Ok(SourceItem {
-        uri: workspace.address_of_path(path)?,
+        uri: workspace.address_of_path(path)?.into_text(),
         kind: SourceItemKind::File,
         generated: false,
     })

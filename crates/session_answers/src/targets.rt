@@ -40,7 +40,7 @@ fn described(alloc: Global, workspace: &Workspace, target: &Target) -> Result<Bu
     ensures texts { IfOk result HasBuildTargetTexts }
     ensures short { IfOk result IsShortTarget }
 {
-    let uri = workspace.id_of_name(&target.name)?;
+    let uri = workspace.id_of_name(&target.name)?.into_text();
     Ok(BuildTarget {
         id: BuildTargetIdentifier { uri },
         display_name: Text::new(alloc, target.name.as_slice())?,
