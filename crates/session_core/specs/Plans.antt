@@ -1,10 +1,10 @@
 -- A build before its documents are handed out.
 use Rattle.std.specs.Prelude.{◌≢◌, ℕ, List, map, Option}
-use Rattle.std.specs.List.{All, AllPairs}
+use Rattle.std.specs.List.{AllPairs}
 use Rattle.std.specs.Option.{IfSome}
 use Rattle.json_shape.specs.Shapes.{IsTextWithin}
 use Rattle.bsp_records.specs.Limits.{origin_limit}
-use Rattle.session_build.specs.Documents.{HasPlainAddress, build_of}
+use Rattle.session_build.specs.Documents.{build_of}
 use Rattle.session_core.specs.declared.planned.Planned.TheInside.{Inside}
 use Rattle.session_law.specs.Methods.{Build}
 use Rattle.session_law.specs.declared.BuildDocument.{BuildDocument}
@@ -19,10 +19,9 @@ pub record Plan : Type 0 where
 abbrev pub plan_of : Inside → Plan
 plan_of planned = record { asked = planned.asked; origin = planned.origin; documents = planned.documents }
 
--- its addresses and its `originId` are short, and no two documents have one address
+-- its `originId` is short, and no two documents have one key
 pub record IsSoundPlan (plan : Plan) : Type 0 where
-  pub plain : All HasPlainAddress plan.documents
-  pub distinct : AllPairs ◌≢◌ (map (λ document. document.address) plan.documents)
+  pub distinct : AllPairs ◌≢◌ (map (λ document. document.key) plan.documents)
   pub short : IfSome plan.origin (IsTextWithin origin_limit)
 
 -- the build that the law speaks of

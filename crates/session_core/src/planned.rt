@@ -23,15 +23,13 @@ impl Model for Planned {
 
 impl Planned {
     ghost use Rattle.std.specs.Prelude.{◌≡◌, ◌≢◌, map};
-    ghost use Rattle.std.specs.List.{All, AllPairs};
+    ghost use Rattle.std.specs.List.{AllPairs};
     ghost use Rattle.std.specs.Option.{IfSome};
     ghost use Rattle.json_shape.specs.Shapes.{IsTextWithin};
     ghost use Rattle.bsp_records.specs.Limits.{origin_limit};
-    ghost use Rattle.session_build.specs.Documents.{HasPlainAddress};
 
     pub fn new(asked: Items<u32>, origin: Option<Text>, documents: Items<BuildDocument>) -> Planned
-        requires plain { All HasPlainAddress documents }
-        requires distinct { AllPairs ◌≢◌ (map (λ document. document.address) documents) }
+        requires distinct { AllPairs ◌≢◌ (map (λ document. document.key) documents) }
         requires short { IfSome origin (IsTextWithin origin_limit) }
         ensures { result ≡ record { asked = asked; origin = origin; documents = documents } }
     {
@@ -45,8 +43,7 @@ impl Planned {
     /// Its documents, in order.
     pub fn documents(&self) -> &[BuildDocument]
         ensures documents { result.now ≡ self.now.documents }
-        ensures plain { All HasPlainAddress result.now }
-        ensures distinct { AllPairs ◌≢◌ (map (λ document. document.address) result.now) }
+        ensures distinct { AllPairs ◌≢◌ (map (λ document. document.key) result.now) }
     {
         self.documents.as_slice()
     }
