@@ -7,3 +7,4 @@ pub mod BareMemory
 pub mod TurnLaws
 pub mod ExpressionLaws
 pub mod InferLaws
+pub mod PredeclaredLaws

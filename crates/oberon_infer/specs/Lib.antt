@@ -3,4 +3,5 @@ pub mod Bare
 pub mod Given
 pub mod Memory
 pub mod Parts
+pub mod Predeclared
 pub mod Sets

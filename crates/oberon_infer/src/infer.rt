@@ -153,7 +153,7 @@ fn factor<'b, 'a>(
             let whole = elements(me, scopes, set, said)?;
             Ok(value_if(whole, TypeRef::Set))
         }
-        Factor::Designator(designator) => selections(me, scopes, designator, said),
+        Factor::Designator(designator) => self::designator(me, scopes, designator, said),
         Factor::Group { inner, .. } => {
             let x = expression(me, scopes, inner, said)?;
             add_value_row(x, inner.first_span(), said)?;
@@ -215,8 +215,9 @@ fn element<'a>(
     }
 }
 
+/// What a designator is where a type may be meant, and what is said of it.
 #[cycle(expression)]
-fn selections<'b, 'a>(
+pub fn designator<'b, 'a>(
     me: &Name,
     scopes: &'b Scopes<'a>,
     designator: &'a Designator,

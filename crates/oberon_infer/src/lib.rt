@@ -26,7 +26,7 @@ mod word;
 pub use argument::{add_changed_rows, value_fits, var_fits};
 pub use bare::{bare_type, type_meant};
 pub use ex::{Ex, ex_of};
-pub use infer::{expression, value};
+pub use infer::{designator, expression, value};
 pub use names::{
     Named, last_name, look_up, member, name, of_view, resolve, type_named, view_member,
 };

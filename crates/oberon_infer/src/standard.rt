@@ -2,6 +2,7 @@ ghost use Rattle.std.specs.Prelude.{◌≡◌};
 ghost use Rattle.std.specs.Option.{option_map};
 ghost use Rattle.oberon_rules.specs.Scopes.{look_up, predeclared};
 ghost use Rattle.oberon_infer.specs.Memory.{plain_standard};
+ghost use Rattle.oberon_infer.specs.Predeclared.{type_names, function_names, procedure_names};
 
 use ob_text::Name;
 
@@ -71,11 +72,24 @@ pub enum Standard {
 }
 
 /// The meaning of a predeclared name. Takes no memory.
-#[tactic(auto, unfolding(oberon_rules::specs::Scopes::predeclared))]
+#[tactic(auto, using(crate::proofs::PredeclaredLaws::in_three))]
 pub fn predeclared(name: &Name) -> Option<Standard>
     ensures { option_map plain_standard result ≡ look_up name.now predeclared }
 {
     let name = name.as_slice();
+    match type_name(name) {
+        Some(standard) => Some(standard),
+        None => match function_name(name) {
+            Some(standard) => Some(standard),
+            None => procedure_name(name),
+        },
+    }
+}
+
+#[tactic(auto, unfolding(oberon_rules::specs::Scopes::predeclared))]
+fn type_name(name: &[u8]) -> Option<Standard>
+    ensures { option_map plain_standard result ≡ look_up name.now type_names }
+{
     if name == INTEGER {
         Some(Standard::Integer)
     } else if name == BYTE {
@@ -86,7 +100,16 @@ pub fn predeclared(name: &Name) -> Option<Standard>
         Some(Standard::Boolean)
     } else if name == SET {
         Some(Standard::Set)
-    } else if name == ABS {
+    } else {
+        None
+    }
+}
+
+#[tactic(auto, unfolding(oberon_rules::specs::Scopes::predeclared))]
+fn function_name(name: &[u8]) -> Option<Standard>
+    ensures { option_map plain_standard result ≡ look_up name.now function_names }
+{
+    if name == ABS {
         Some(Standard::Word(Word::Abs))
     } else if name == ODD {
         Some(Standard::Word(Word::Odd))
@@ -102,7 +125,16 @@ pub fn predeclared(name: &Name) -> Option<Standard>
         Some(Standard::Word(Word::Ord))
     } else if name == CHR {
         Some(Standard::Word(Word::Chr))
-    } else if name == INC {
+    } else {
+        None
+    }
+}
+
+#[tactic(auto, unfolding(oberon_rules::specs::Scopes::predeclared))]
+fn procedure_name(name: &[u8]) -> Option<Standard>
+    ensures { option_map plain_standard result ≡ look_up name.now procedure_names }
+{
+    if name == INC {
         Some(Standard::Word(Word::Inc))
     } else if name == DEC {
         Some(Standard::Word(Word::Dec))

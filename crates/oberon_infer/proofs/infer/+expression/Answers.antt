@@ -87,12 +87,12 @@ term-returns-clause-says t c =
 
 pub factor-returns-in-Designator-clause-is : goal.factor-returns-in-Designator-clause-is
 factor-returns-in-Designator-clause-is t c =
-    is_as c.selections.result plain_ex (designator_is c.args.me.now (plain_scopes c.args.scopes.now) (designator_tree c.in-Designator.designator)) (factor_is c.args.me.now (plain_scopes c.args.scopes.now) (factor_tree c.args.factor.now)) c.selections.ensures.is
+    is_as c.designator.result plain_ex (designator_is c.args.me.now (plain_scopes c.args.scopes.now) (designator_tree c.in-Designator.designator)) (factor_is c.args.me.now (plain_scopes c.args.scopes.now) (factor_tree c.args.factor.now)) c.designator.ensures.is
     (sym (ap (λ (f : Factor). factor_is c.args.me.now (plain_scopes c.args.scopes.now) (factor_tree f)) c.in-Designator.is ∙ ap (factor_is c.args.me.now (plain_scopes c.args.scopes.now)) (designator_held c.in-Designator.designator)))
 
 pub factor-returns-in-Designator-clause-says : goal.factor-returns-in-Designator-clause-says
 factor-returns-in-Designator-clause-says t c =
-    adds_only c.selections.result c.args.said.now.items c.selections.new.said.items (designator_says c.args.me.now (plain_scopes c.args.scopes.now) (designator_tree c.in-Designator.designator)) (factor_says c.args.me.now (plain_scopes c.args.scopes.now) (factor_tree c.args.factor.now)) c.selections.ensures.says (λ rest.
+    adds_only c.designator.result c.args.said.now.items c.designator.new.said.items (designator_says c.args.me.now (plain_scopes c.args.scopes.now) (designator_tree c.in-Designator.designator)) (factor_says c.args.me.now (plain_scopes c.args.scopes.now) (factor_tree c.args.factor.now)) c.designator.ensures.says (λ rest.
     sym (ap (λ (f : Factor). factor_says c.args.me.now (plain_scopes c.args.scopes.now) (factor_tree f) rest) c.in-Designator.is ∙ ap (λ y. factor_says c.args.me.now (plain_scopes c.args.scopes.now) y rest) (designator_held c.in-Designator.designator)))
 
 pub factor-returns-in_ok-x-in-Not-clause-says : goal.factor-returns-in_ok-x-in-Not-clause-says
@@ -154,8 +154,8 @@ element-returns-in-None-clause-says t c =
 
 -- ---- selectors
 
-pub selections-loop-selector-preserved : goal.selections-loop-selector-preserved
-selections-loop-selector-preserved t c = record {
+pub designator-loop-selector-preserved : goal.designator-loop-selector-preserved
+designator-loop-selector-preserved t c = record {
   is = selector_turn c.args.me.now (plain_scopes c.args.scopes.now) c.deref-selector-items.result.now c.loop-selector.selector-index c.selector-item.result _ (plain_ex c.loop-selector.x) (plain_ex c.in_ok-x.x)
       c.loop-selector-test.true c.selector-item.is c.in_ok-x.ensures.is c.loop-selector.invariant.is;
   says = selector_turn_said c.args.me.now (plain_scopes c.args.scopes.now) c.args.designator.now.name.span c.deref-selector-items.result.now c.loop-selector.selector-index c.selector-item.result (plain_ex c.loop-selector.x) (plain_ex c.in_ok-x.x)

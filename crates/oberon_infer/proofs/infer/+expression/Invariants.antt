@@ -27,8 +27,8 @@ invariant-elements-loop-next l = record {
   says : Goes l.initial.said.items l.said.items (more_elements_say l.me (plain_scopes l.scopes) (more_elements_list l.next-items)) (more_elements_say l.me (plain_scopes l.scopes) (more_elements_list (drop l.next-index l.next-items)));
 }
 
-abbrev pub invariant-selections-loop-selector : goal.invariant-selections-loop-selector
-invariant-selections-loop-selector l = record {
+abbrev pub invariant-designator-loop-selector : goal.invariant-designator-loop-selector
+invariant-designator-loop-selector l = record {
   is : selectors_are l.me (plain_scopes l.scopes) (plain_ex l.initial.x) (selectors_list l.selector-items) ≡ selectors_are l.me (plain_scopes l.scopes) (plain_ex l.x) (selectors_list (drop l.selector-index l.selector-items));
   says : Goes l.initial.said.items l.said.items (selectors_say l.me (plain_scopes l.scopes) l.designator.name.span (plain_ex l.initial.x) (selectors_list l.selector-items)) (selectors_say l.me (plain_scopes l.scopes) l.designator.name.span (plain_ex l.x) (selectors_list (drop l.selector-index l.selector-items)));
 }
