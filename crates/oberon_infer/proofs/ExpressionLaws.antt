@@ -66,6 +66,9 @@ module _ (me : List ℕ) (s : Scopes) where
       ∙ ap (λ y. simple_says me s a (value_row (simple_is me s a) (first_of_simple a) (relation_says me s (simple_is me s a) y rest))) (relation_out r)
       ∙ sym (ap (λ y. expr_says me s y rest) (expr_related e b r is held ∙ ap (expr_of a) (relation_out r))))
 
+  pub expr_done : (e : Expr) (b : Box Relation Global) (r : Relation) (x : Ex) → (out-Expr e).relation ≡ Some b → r ≡ b.value → x ≡ simple_is me s (simple_tree (out-Expr e).left) → relation_is me s x (relation_tree r) ≡ expr_is me s (expr_tree e)
+  expr_done e b r x is held p = ap (λ y. relation_is me s y (relation_tree r)) p ∙ sym (ap (expr_is me s) (expr_related e b r is held))
+
   pub relation_said : {X E : Type 0} (r : Relation) (x y : Ex) (answer : Result X E) (d : List OwnSaid) {o c : List OwnSaid} → y ≡ simple_is me s (simple_tree (out-Relation r).right) → Adds o c (simple_says me s (simple_tree (out-Relation r).right)) → OnOk answer (Adds c d (related_says s x (out-Relation r).operator (out-Relation r).span (simple_tree (out-Relation r).right) y)) → OnOk answer (Adds o d (relation_says me s x (relation_tree r)))
   relation_said r x y answer d p u v =
       let b = simple_tree (out-Relation r).right in

@@ -15,18 +15,20 @@ use Rattle.oberon_tree.specs.declared.expression.Elements.{Elements, out-Element
 use Rattle.oberon_tree.specs.declared.expression.Element.{Element, out-Element}
 use Rattle.oberon_tree.specs.declared.expression.Upper.{Upper, out-Upper}
 use Rattle.oberon_tree.specs.declared.expression.NextElement.{NextElement, out-NextElement}
+use Rattle.oberon_tree.specs.declared.expression.Designator.{Designator}
 use Rattle.oberon_tree.specs.declared.expression.Selector.{Selector}
 use Rattle.oberon_tree.specs.declared.expression.Exprs.{Exprs, out-Exprs}
 use Rattle.oberon_tree.specs.declared.expression.NextExpr.{NextExpr, out-NextExpr}
 use Rattle.oberon_tree.specs.FirstSpans.{first_of_expr, first_of_term, first_of_factor}
-use Rattle.oberon_tree.specs.Memory.{expr_tree, simple_tree, addends_list, term_tree, multipliers_list, factor_tree, set_tree, element_tree, more_elements_list, selector_tree, selectors_list, exprs_tree, more_exprs_list, arguments_option}
+use Rattle.oberon_tree.specs.Memory.{expr_tree, simple_tree, addends_list, term_tree, multipliers_list, factor_tree, set_tree, element_tree, more_elements_list, selector_tree, selectors_list, exprs_tree, more_exprs_list, arguments_option, designator_tree}
 use Rattle.oberon_tree.specs.Trees.{simple_of, term_of, exprs_of, more_exprs, call_selector}
 use Rattle.oberon_tree.proofs.ExpressionMemory.{simple_out, term_out, exprs_out}
 use Rattle.oberon_types.specs.Types.{TyTree}
 use Rattle.oberon_rules.specs.Scopes.{Scopes, Said, row}
+use Rattle.oberon_rules.specs.Names.{name_is, name_says}
 use Rattle.oberon_rules.specs.Operators.{add_fits, mul_fits, is_bad}
-use Rattle.oberon_rules.specs.Expressions.{Ex, class_of, outcome_is, signed_is, element_type, elements_type, or_unknown, indexed_type, expr_is, simple_is, addends_are, term_is, multipliers_are, factor_is, selected, selectors_are, exprs_are, more_exprs_are, argument_type}
-use Rattle.oberon_rules.specs.ExpressionRules.{Wanted, first_wanted, later_wanted, value_row, sign_row, index_rows, argument_rows, expr_says, simple_says, addends_say, term_says, multipliers_say, factor_says, element_says, more_elements_say, selector_says, selectors_say, wants, argument_count, or_none, arguments_say, indices_say, more_indices_say, exprs_say, more_exprs_say}
+use Rattle.oberon_rules.specs.Expressions.{Ex, class_of, outcome_is, signed_is, element_type, elements_type, or_unknown, indexed_type, expr_is, simple_is, addends_are, term_is, multipliers_are, factor_is, selected, selectors_are, exprs_are, more_exprs_are, argument_type, is_whole, ty_of, ex_of, designator_is}
+use Rattle.oberon_rules.specs.ExpressionRules.{Wanted, first_wanted, later_wanted, value_row, sign_row, index_rows, argument_rows, expr_says, simple_says, addends_say, term_says, multipliers_say, factor_says, element_says, more_elements_say, selector_says, selectors_say, wants, argument_count, or_none, arguments_say, indices_say, more_indices_say, exprs_say, more_exprs_say, designator_says, call_rows}
 use Rattle.oberon_infer.specs.declared.said.Said.{Said as OwnSaid}
 use Rattle.oberon_infer.specs.Adds.{Goes, Adds}
 use Rattle.oberon_infer.specs.Bare.{is_alone, has_multipliers}
@@ -120,6 +122,14 @@ module _ (me : List ℕ) (s : Scopes) where
   range_said t u x y place at is p i q j k l m n =
       adds_as (adds_then (end_said me s (expr_tree (out-Element t).first) x place p i k l) (end_said me s (expr_tree (out-Upper u).last) y at q j m n)) (λ rest. sym (ap (λ z. element_says me s z rest) (element_range t u is)))
 
+  -- whether both ends of a range are whole numbers
+  pub range_whole : (t : Element) (u : Upper) (x y : Ex) (v w : Bool) → (out-Element t).upper ≡ Some u → x ≡ expr_is me s (expr_tree (out-Element t).first) → y ≡ expr_is me s (expr_tree (out-Upper u).last) → v ≡ is_whole (ty_of x) → w ≡ is_whole (ty_of y) → (v && w) ≡ is_whole_element me s (element_tree t)
+  range_whole t u x y v w is p q i j =
+      let a = expr_is me s (expr_tree (out-Element t).first) in
+      ap (λ b. b && w) (i ∙ ap (λ z. is_whole (ty_of z)) p)
+      ∙ ap (λ b. is_whole (ty_of a) && b) (j ∙ ap (λ z. is_whole (ty_of z)) q)
+      ∙ sym (ap (is_whole_element me s) (element_range t u is))
+
   -- ---- selectors
 
   pub selector_turn : (xs : List Selector) (n : ℕ) (sel : Selector) (w x z : Ex) → n < length xs → sel ≡ get_or xs n sel → z ≡ selected me s x (selector_tree sel) → w ≡ selectors_are me s x (selectors_list (drop n xs)) → w ≡ selectors_are me s z (selectors_list (drop (n + 1) xs))
@@ -129,6 +139,18 @@ module _ (me : List ℕ) (s : Scopes) where
   selector_turn_said place xs n sel x z h is p g v =
       selector_said me s place (selector_tree sel) (selectors_list (drop (n + 1) xs)) x z p
       (goes_to g (λ rest. ap (λ t. selectors_say me s place x t rest) (selectors_step xs n sel h is))) v
+
+  pub designator_end : (t : Designator) (xs : List Selector) (n : ℕ) (f z : Ex) → xs ≡ t.selectors.items → length xs ≤ n → f ≡ ex_of (name_is s t.name.name) → selectors_are me s f (selectors_list xs) ≡ selectors_are me s z (selectors_list (drop n xs)) → z ≡ designator_is me s (designator_tree t)
+  designator_end t xs n f z items h p r =
+      sym (ap (selectors_are me s z) (at_drop_all selectors_list xs n h)) ∙ sym r
+      ∙ ap (λ y. selectors_are me s y (selectors_list xs)) p
+      ∙ ap (λ ys. selectors_are me s (ex_of (name_is s t.name.name)) (selectors_list ys)) items
+
+  pub designator_end_said : (t : Designator) (xs : List Selector) (n : ℕ) (f z : Ex) {a b c : List OwnSaid} → xs ≡ t.selectors.items → length xs ≤ n → f ≡ ex_of (name_is s t.name.name) → Adds a b (name_says s t.name) → Goes b c (selectors_say me s t.name.span f (selectors_list xs)) (selectors_say me s t.name.span z (selectors_list (drop n xs))) → Adds a c (designator_says me s (designator_tree t))
+  designator_end_said t xs n f z items h p v g =
+      adds_as (adds_then v (goes_end g (λ rest. ap (λ y. selectors_say me s t.name.span z y rest) (at_drop_all selectors_list xs n h)))) (λ rest.
+      ap (λ y. name_says s t.name (selectors_say me s t.name.span y (selectors_list xs) rest)) p
+      ∙ ap (λ ys. name_says s t.name (selectors_say me s t.name.span (ex_of (name_is s t.name.name)) (selectors_list ys) rest)) items)
 
   -- ---- indices
 
@@ -168,6 +190,13 @@ module _ (me : List ℕ) (s : Scopes) where
       ∙ ap (λ (z : Exprs). called_rows place x p guard bad (exprs_say me s (or_none (wants x args)) (exprs_tree z) rest)) held
       ∙ ap (λ (z : Option (Box Exprs Global)). called_rows place x p guard bad (arguments_say me s (or_none (wants x args)) (arguments_option z) rest)) (sym is)
       ∙ call_said s place x p args guard bad (arguments_say me s (or_none (wants x args)) args rest) g (e ∙ ap is_bad all))
+
+  pub call_said_without : (place : Span) (x : Ex) (p q : Span) (o : Option (Box Exprs Global)) (guard : Option TyTree) (bad : Bool) (count : ℕ) (wanted : Option (List Wanted)) {a c : List OwnSaid} → o ≡ None → guard ≡ guard_of x (argument_type s (arguments_option o)) → count ≡ argument_count (arguments_option o) → wanted ≡ wants_of x count → bad ≡ is_bad wanted → Adds a c (called_rows place x p guard bad) → Adds a c (selector_says me s place x (call_selector p (arguments_option o) q))
+  call_said_without place x p q o guard bad count wanted is g n w e u =
+      let args = arguments_option o in
+      adds_as u (λ rest.
+      call_said s place x p args guard bad rest g (e ∙ ap is_bad (w ∙ ap (wants_of x) n ∙ wants_parts x args))
+      ∙ sym (ap (λ (z : Option (Box Exprs Global)). call_rows s place x p args (arguments_say me s (or_none (wants x args)) (arguments_option z) rest)) is))
 
   -- ---- arguments
 

@@ -10,17 +10,17 @@ use Rattle.oberon_tree.specs.declared.expression.Signed.{Signed}
 use Rattle.oberon_tree.specs.declared.expression.Relator.{Relator}
 use Rattle.oberon_tree.specs.declared.expression.Relator.TheVariants as relators
 use Rattle.oberon_tree.specs.FirstSpans.{first_of_expr, first_of_term, first_of_factor}
-use Rattle.oberon_tree.specs.Trees.{ExprTree, expr_of, relation_of, SimpleTree, simple_of, AddendsTree, no_addends, more_addends, TermTree, term_of, MultipliersTree, no_multipliers, more_multipliers, FactorTree, some_elements, MoreElementsTree, no_more_elements, more_elements, ElementTree, element_of, no_upper, upper_of, field_selector, index_selector, call_selector, ArgumentsTree, ExprsTree}
-use Rattle.oberon_types.specs.Types.{TyTree, unknown_ty, record_ty}
+use Rattle.oberon_tree.specs.Trees.{ExprTree, expr_of, relation_of, SimpleTree, simple_of, AddendsTree, no_addends, more_addends, TermTree, term_of, MultipliersTree, no_multipliers, more_multipliers, FactorTree, some_elements, MoreElementsTree, no_more_elements, more_elements, ElementTree, element_of, no_upper, upper_of, field_selector, index_selector, call_selector, ArgumentsTree, ExprsTree, SetTree, set_of, set_factor}
+use Rattle.oberon_types.specs.Types.{TyTree, unknown_ty, record_ty, set_ty}
 use Rattle.oberon_rules.specs.Scopes.{Access, Predeclared, abs_word, Meaning, unknown_meaning, type_meaning, import_meaning, Scopes, Said, row}
-use Rattle.oberon_rules.specs.Expressions.{Ex, nothing, a_variable, a_module, a_procedure, a_word, ex_of, ty_of, expr_is, relation_is, simple_is, term_is, factor_is, signed_is, elements_are, more_elements_are, element_is, all_whole, is_whole, selected, arguments_are, argument_type, indexed_type, or_unknown, type_meant, member_meant, word_called, guarded}
+use Rattle.oberon_rules.specs.Expressions.{Ex, nothing, a_variable, a_module, a_procedure, a_word, ex_of, ty_of, expr_is, relation_is, simple_is, term_is, factor_is, signed_is, elements_are, more_elements_are, element_is, all_whole, is_whole, selected, arguments_are, argument_type, indexed_type, or_unknown, type_meant, member_meant, word_called, guarded, value_if}
 use Rattle.oberon_rules.specs.ExpressionRules.{value_says, expr_says, relation_says, simple_says, addends_say, term_says, multipliers_say, factor_says, value_row, sign_row, member_rows, indexed, is_guarded, is_bad_guard, call_rows, wants, argument_count, takes_arguments}
 use Rattle.oberon_rules.specs.Operators.{is_bad}
 use Rattle.ob_text.specs.declared.code.Code.TheVariants as codes_of
 use Rattle.oberon_infer.specs.Bare.{is_alone, has_multipliers, ex_meant, meant_of_module}
 use Rattle.oberon_infer.specs.Given.{Given, none_given, many_given, given_behind, word_given}
 use Rattle.oberon_infer.specs.Parts.{operand_rows, related_is, related_says, wants_of, field_rows, member_selected, indexed_part, guard_of, called_with, called_rows}
-use Rattle.oberon_infer.specs.Sets.{is_whole_element, are_whole}
+use Rattle.oberon_infer.specs.Sets.{is_whole_element, are_whole, is_whole_set, set_says}
 
 -- ---- operators
 
@@ -54,6 +54,12 @@ and_assoc false b c = refl
 whole_before : (me : List ℕ) (s : Scopes) (e : ElementTree) (rest : List Ex) → (is_whole_element me s e && all_whole rest) ≡ all_whole (element_is me s e rest)
 whole_before me s (element_of e no_upper) rest = refl
 whole_before me s (element_of e (upper_of dots f)) rest = and_assoc (is_whole (ty_of (expr_is me s e))) (is_whole (ty_of (expr_is me s f))) (all_whole rest)
+
+pub set_parts : (me : List ℕ) (s : Scopes) (t : SetTree) → value_if (is_whole_set me s t) set_ty ≡ factor_is me s (set_factor t)
+set_parts me s (set_of a es b) = refl
+
+pub set_speaks : (me : List ℕ) (s : Scopes) (t : SetTree) (rest : List Said) → set_says me s t rest ≡ factor_says me s (set_factor t) rest
+set_speaks me s (set_of a es b) rest = refl
 
 and_true : (a : Bool) → (a && true) ≡ a
 and_true true = refl
