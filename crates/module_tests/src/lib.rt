@@ -1,0 +1,12 @@
+//! Tests of what `oberon_module` offers, in tables of modules: what each shows, and for each diagnostic a smallest module
+//! that has it, beside one that just doesn't.
+#![tactic(auto)]
+
+#[cfg(test)]
+mod diagnostics;
+#[cfg(test)]
+mod importing;
+#[cfg(test)]
+mod shown;
+#[cfg(test)]
+mod texts;

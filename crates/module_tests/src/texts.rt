@@ -1,0 +1,112 @@
+//! What the tests share: modules that are checked, lists of diagnostics and views as one line.
+use indexmap::IndexMap;
+use ob_text::{Diagnostic, Held, Name, Text};
+use oberon_module::{Checked, check_module};
+use oberon_types::{Entity, Ty, Value, View};
+use std::alloc::{AllocError, Global};
+use std::test::Fail;
+
+/// What a check of a text of the module A finds, with a view of each of the modules.
+pub fn checked(alloc: Global, text: &str, views: &IndexMap<Name, View>) -> Result<Checked, Fail> {
+    checked_as(alloc, "A", text, views)
+}
+
+/// The same of a module of another name.
+pub fn checked_as(
+    alloc: Global,
+    name: &str,
+    text: &str,
+    views: &IndexMap<Name, View>,
+) -> Result<Checked, Fail> {
+    if text.len() > 262_144 {
+        return Err(Fail::from("too long"));
+    }
+    let stem = Name::new(alloc, name.as_bytes())?;
+    let held = Held::Text(Text::new(alloc, text.as_bytes())?);
+    Ok(check_module(alloc, &stem, &held, views)?)
+}
+
+/// Each diagnostic as its range and its code.
+pub fn listed(alloc: Global, list: &[Diagnostic]) -> Result<String, AllocError> {
+    let mut out = String::new(alloc);
+    for diagnostic in list {
+        if out.len() > 0 {
+            out.push_str(" ")?;
+        }
+        let start = diagnostic.range.start;
+        let end = diagnostic.range.end;
+        let code = diagnostic.code.name();
+        write!(
+            out,
+            "{}:{}-{}:{} {code};",
+            start.line, start.character, end.line, end.character
+        )?;
+    }
+    Ok(out)
+}
+
+/// Each export as its name and what it stands for.
+pub fn shown(alloc: Global, view: &View) -> Result<String, AllocError> {
+    let mut out = String::new(alloc);
+    match view {
+        View::Missing => out.push_str("missing")?,
+        View::Broken => out.push_str("broken")?,
+        View::Cyclic => out.push_str("cyclic")?,
+        View::Exports(exports) => {
+            for (name, entity) in exports.entities.iter() {
+                put_name(&mut out, name)?;
+                put_entity(&mut out, entity)?;
+            }
+        }
+    }
+    Ok(out)
+}
+
+fn put_name(out: &mut String, name: &Name) -> Result<(), AllocError> {
+    match std::str::from_utf8(name.as_slice()) {
+        Ok(text) => out.push_str(text),
+        Err(_) => out.push_str("?"),
+    }
+}
+
+fn put_entity(out: &mut String, entity: &Entity) -> Result<(), AllocError> {
+    match entity {
+        Entity::Constant(value) => put_value(out, value),
+        Entity::TypeName(ty) => put_type(out, " type", ty),
+        Entity::Variable(ty) => put_type(out, " variable", ty),
+        Entity::Proc(signature) => {
+            let count = signature.params.len();
+            write!(out, " procedure {count};")
+        }
+    }
+}
+
+fn put_value(out: &mut String, value: &Value) -> Result<(), AllocError> {
+    match value {
+        Value::Integer(x) => write!(out, " = {x};"),
+        Value::Char(code) => write!(out, " = {code}X;"),
+        Value::Boolean(truth) => write!(out, " = {truth};"),
+        Value::Set(set) => write!(out, " = set {set};"),
+        Value::Str(text) => {
+            let count = text.as_slice().len();
+            write!(out, " = {count} bytes;")
+        }
+    }
+}
+
+fn put_type(out: &mut String, kind: &str, ty: &Ty) -> Result<(), AllocError> {
+    out.push_str(kind)?;
+    match ty {
+        Ty::Record(given) => {
+            let size = given.size;
+            write!(out, " record of size {size}")?;
+            for field in &given.fields {
+                out.push_str(" ")?;
+                put_name(out, &field.name)?;
+            }
+            out.push_str(";")
+        }
+        Ty::Array { length, .. } => write!(out, " array of {length};"),
+        _ => out.push_str(";"),
+    }
+}

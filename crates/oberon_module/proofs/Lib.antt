@@ -1,0 +1,13 @@
+pub mod CheckLaws
+pub mod ExportLaws
+pub mod ImportLaws
+pub mod JudgeLaws
+pub mod ListedRows
+pub mod NumberLaws
+pub mod PlaceLaws
+pub mod RowLaws
+pub mod RowLists
+pub mod RowOrder
+pub mod ShownRows
+pub mod SortedLaws
+pub mod WrittenLaws

@@ -1,0 +1,17 @@
+//! What is wrong with a module by the views of its imports, which modules it imports, and what it shows: `check_module`,
+//! from what is held at a document's path. Statements and RETURN aren't judged yet, nor whether an import is used.
+//!
+//! It stands on `oberon_declare` for declarations and on `oberon_check` for what has no tree; nothing of a workspace is
+//! known here. Begin reading at `Local.antt` of `oberon_rules`, which says what a check promises, and at `check.rt`.
+#![tactic(auto)]
+
+mod check;
+mod exports;
+mod importing;
+mod judging;
+mod listing;
+mod numbers;
+mod places;
+mod written;
+
+pub use check::{Checked, check_module};
