@@ -1,6 +1,7 @@
 pub mod CheckLaws
 pub mod ExportLaws
 pub mod ImportLaws
+pub mod InterfaceLaws
 pub mod JudgeLaws
 pub mod ListedRows
 pub mod NumberLaws

@@ -1,6 +1,6 @@
 -- Exports go to their places one after another, and none replaces another.
-use Rattle.std.specs.Prelude.{ℕ, zero, suc, ◌≡◌, ◌+◌, ◌<◌, length, drop, slice_get, Bool, true, false, List, [], ◌∷◌, ◌++◌, map, Option, Some, None, if◌then◌else◌, refl}
-use Rattle.std.proofs.Common.{ap, sym, subst, ◌∙◌, arith, add-one, true≢false}
+use Rattle.std.specs.Prelude.{ℕ, zero, suc, ◌≡◌, ◌<◌, length, drop, slice_get, Bool, true, false, List, [], ◌∷◌, ◌++◌, map, Option, Some, None, if◌then◌else◌, refl}
+use Rattle.std.proofs.Common.{ap, sym, subst, ◌∙◌, arith, true≢false}
 use Rattle.std.specs.Borrow.{Bor}
 use Rattle.std.specs.BTreeMap.{insert_entry}
 use Rattle.std.specs.Cmp.Lexicographic.{slice_cmp}
@@ -24,7 +24,7 @@ use Rattle.oberon_infer.specs.declared.scope.Binding.{Binding}
 use Rattle.oberon_infer.specs.Memory.{plain_meaning, plain_bindings}
 use Rattle.oberon_rules.specs.Order.{name_before}
 use Rattle.oberon_rules.specs.Views.{written, map_entity, map_export, entity_of, put_in, put_entity, exported_in}
-use Rattle.oberon_module.specs.Sorted.{sorted_exports, written_exports, names_of, put_binding, put_at, IsNewIn, IsNewAt}
+use Rattle.oberon_module.specs.Sorted.{sorted_exports, written_exports, names_of, put_at, IsNewIn, IsNewAt}
 
 -- ---- one export more
 

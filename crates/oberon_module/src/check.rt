@@ -1,8 +1,9 @@
-ghost use Rattle.std.specs.Prelude.{◌≡◌, false, if◌then◌else◌, List, map, IfOk};
+ghost use Rattle.std.specs.Prelude.{◌≡◌, false, if◌then◌else◌, List, [], map, IfOk};
 ghost use Rattle.ob_text.specs.Held.{IsReadable};
 ghost use Rattle.ob_text.specs.declared.diagnostic.Diagnostic.{Diagnostic as Found};
 ghost use Rattle.ob_text.specs.declared.held.Held.TheVariants as helds;
 ghost use Rattle.oberon_check.specs.Diagnosed.{Diagnosed};
+ghost use Rattle.oberon_scan.specs.Lexis.{Lex};
 ghost use Rattle.oberon_tree.specs.Memory.{tree_of};
 ghost use Rattle.oberon_types.specs.Entities.{broken_view, exports_view};
 ghost use Rattle.oberon_types.specs.Memory.{plain_view};
@@ -23,7 +24,7 @@ use oberon_check::diagnose;
 use oberon_imports::imports_of;
 use oberon_infer::{Said, Scope, add_row};
 use oberon_parse::{ParseRefusal, parse};
-use oberon_scan::{Scanned, scan};
+use oberon_scan::{Scanned, Token, scan};
 use oberon_tree::Tree;
 use oberon_types::View;
 use std::alloc::Global;
@@ -70,10 +71,28 @@ fn check_text(
     ensures { IfOk result (λ c. TextLocal false text.now stem.now (view_in (plain_views views.now.entries)) c.list.items c.imports.items (plain_view c.view)) }
 {
     let Scanned { tokens, faults } = scan(alloc, text)?;
-    if !faults.is_empty() {
-        return without_tree(alloc, held);
+    if faults.is_empty() {
+        check_tokens(alloc, stem, held, text, tokens.as_slice(), views)
+    } else {
+        without_tree(alloc, held)
     }
-    match parse(alloc, tokens.as_slice()) {
+}
+
+/// Checks a text without lexical faults, by its tokens.
+fn check_tokens(
+    alloc: Global,
+    stem: &Name,
+    held: &Held,
+    text: &[u8],
+    tokens: &[Token],
+    views: &IndexMap<Name, View>,
+) -> Result<Checked, NoMemory>
+    requires readable { IsReadable held.now }
+    requires held { held.now ≡ helds.Text text.now }
+    requires lexis { Lex text.now tokens.now [] }
+    ensures { IfOk result (λ c. TextLocal false text.now stem.now (view_in (plain_views views.now.entries)) c.list.items c.imports.items (plain_view c.view)) }
+{
+    match parse(alloc, tokens) {
         Ok(tree) => check_tree(alloc, stem, text, &tree, views),
         Err(ParseRefusal::FirstBad(_)) => without_tree(alloc, held),
         Err(ParseRefusal::NoMemory) => Err(NoMemory),

@@ -3,7 +3,7 @@ use Rattle.std.specs.List.{IsDistinct}
 use Rattle.oberon_types.specs.Entities.{Export}
 use Rattle.oberon_types.specs.Types.{same_name}
 use Rattle.oberon_module.specs.Sorted.{sorted_exports, names_of}
-use Rattle.oberon_module.proofs.SortedLaws.{shown_next, shown_all}
+use Rattle.oberon_module.proofs.SortedLaws.{shown_next}
 use Rattle.oberon_module.proofs.exports.exports.Goals as goal
 
 pub names-preserved : goal.names-preserved

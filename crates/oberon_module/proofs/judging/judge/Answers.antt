@@ -16,8 +16,8 @@ procedures-requires c =
     let m = module_tree c.args.root.now in
     let two = plain_scopes c.declarations.new.scopes in
     let behind : two ≡ with_decls me views m =
-        c.in_ok-declarations.ensures.behind
-        ∙ ap (λ (s : Scopes). decls_behind me s m.declarations)
-            (c.in_ok-imports.ensures.behind
-            ∙ ap (λ (gs : List Entry). imports_behind views (record { procedure = None; locals = None; globals = gs }) (import_list m.imports)) c.new.ensures) in
+    c.in_ok-declarations.ensures.behind
+    ∙ ap (λ (s : Scopes). decls_behind me s m.declarations)
+    (c.in_ok-imports.ensures.behind
+    ∙ ap (λ (gs : List Entry). imports_behind views (record { procedure = None; locals = None; globals = gs }) (import_list m.imports)) c.new.ensures) in
     decls_inside me views m two behind
