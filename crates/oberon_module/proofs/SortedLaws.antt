@@ -12,7 +12,6 @@ use Rattle.std.specs.declared.cmp.Ordering.{Ordering}
 use Rattle.std.specs.declared.cmp.Ordering.TheVariants.{Less, Equal, Greater}
 use Rattle.std.proofs.lemmas.Bool.Decides.{nat_tests}
 use Rattle.std.proofs.lemmas.Cmp.{same_from_slice_cmp, nat_list_eq_equiv}
-use Rattle.std.proofs.lemmas.List.{append-nil}
 use Rattle.std.proofs.lemmas.Map.Keys.{IsDistinct-head, IsDistinct-tail, IsDistinct-cons}
 use Rattle.std.proofs.lemmas.Map.Lookups.{exact_bytes}
 use Rattle.indexmap.specs.IndexMap.{insert_entry as insert_last}
@@ -162,10 +161,3 @@ shown_next all done new x k v old rest same d was popped is =
     ∙ pushed done x v (sorted_exports rest)
     ∙ ap (λ (y : List ℕ). map plain_export done ++ plain_export (y, v) ∷ sorted_exports rest) same
     ∙ now
-
-none_left : (es : List (Bor (List ℕ) × Entity)) → (0 < length es → ⊥) → sorted_exports es ≡ []
-none_left [] h = refl
-none_left (e ∷ es) h = absurd (h (omega arith))
-
-pub shown_all : (all : List Export) (done : List (List ℕ × Entity)) (old : List (Bor (List ℕ) × Entity)) → map plain_export done ++ sorted_exports old ≡ all → (0 < length old → ⊥) → map plain_export done ≡ all
-shown_all all done old was h = sym (append-nil (map plain_export done)) ∙ ap (λ (es : List Export). map plain_export done ++ es) (sym (none_left old h)) ∙ was

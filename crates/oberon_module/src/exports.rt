@@ -220,11 +220,11 @@ fn show<'s>(
     requires { IsNewIn name.now (sorted_exports sorted.old.entries) }
     ensures { OnOk result (sorted_exports sorted.new.entries ≡ put_binding name.now binding.now (sorted_exports sorted.old.entries)) }
 {
-    if binding.exported {
-        let entity = written_entity(alloc, &binding.meaning)?;
-        put(name.as_slice(), entity, sorted)?;
+    if !binding.exported {
+        return Ok(());
     }
-    Ok(())
+    let entity = written_entity(alloc, &binding.meaning)?;
+    put(name.as_slice(), entity, sorted)
 }
 
 /// Puts what a name stands for to its place.
