@@ -1,11 +1,14 @@
--- How far a source has come, and where an exit lies.
-use Rattle.std.proofs.Common.{◌≡◌, ◌⊎◌, inl, inr, ◌+◌, ◌++◌, ◌<◌, ◌≤◌, ℕ, List, [], ◌∷◌, length, Option, Some, None, refl, sym, ap, ◌∙◌, subst, arith, length-append}
+-- How far a source has come, and where an exit, a damage and a frame behind which the output failed lie.
+use Rattle.std.proofs.Common.{◌≡◌, ◌⊎◌, inl, inr, ◌+◌, ◌++◌, ◌<◌, ◌≤◌, ℕ, List, [], ◌∷◌, length, Option, Some, None, refl, sym, ap, ◌∙◌, subst, arith, append_assoc, length-append}
 use Rattle.std.proofs.Math.Nat.{lt_of_not-le}
 use Rattle.std.specs.Option.{option_map}
 use Rattle.bsp_edge.specs.Course.{Course, moved}
-use Rattle.rpc_frame.specs.Frames.{BeginsWith, HasNoFrame, Waiting}
+use Rattle.rpc_frame.specs.declared.damage.Damage.{Damage}
+use Rattle.rpc_frame.specs.Damages.{HasDamage}
+use Rattle.rpc_frame.specs.Frames.{BeginsWith, HasNoFrame, IsSound, Waiting}
+use Rattle.rpc_frame.proofs.FrameLaws.{sound_part}
 use Rattle.bsp_cli.specs.Places.{EndsInLast, IsAt, WhereTold}
-use Rattle.bsp_cli.specs.Progress.{Passes, fed}
+use Rattle.bsp_cli.specs.Progress.{IsWithin, Passes, fed}
 
 -- a source that was read from came further by the piece
 pub came_further : (start now next : Option Course) (n count : ℕ) → IsAt start now n → next ≡ option_map (moved count) now → IsAt start next (n + count)
@@ -49,6 +52,24 @@ pub passes_more : (old now new : Waiting) (body : List ℕ) → Passes old now �
 passes_more old now new body passes begins same = λ front rest whole none.
     let before = passes front rest whole none in
     omega (arith, before, same, ap length begins.whole, length-append begins.frame new.bytes)
+
+-- the damage that a sound stream has with a piece lies in the piece
+pub damage_within : (old new : Waiting) (piece : List ℕ) (damage : Damage) → new ≡ record old { bytes = old.bytes ++ piece } → IsSound old.bytes → HasDamage new damage → IsWithin damage (fed old) (length piece)
+damage_within old new piece damage same sound has =
+    let found = has.at in
+    let begun : new.bytes ≡ old.bytes ++ piece = ap (λ stream. stream.bytes) same in
+    let start : new.given_end ≡ old.given_end = ap (λ stream. stream.given_end) same in
+    let bad : List ℕ = found.front ++ (found.byte ∷ []) in
+    let counts : length bad ≡ length found.front + 1 = length-append found.front (found.byte ∷ []) in
+    let whole : bad ++ found.after ≡ old.bytes ++ piece = append_assoc found.front (found.byte ∷ []) found.after ∙ sym found.whole ∙ begun in
+    let behind : length old.bytes < length bad =
+    lt_of_not-le (λ short.
+    let more = longer_front bad found.after old.bytes piece whole short in
+    found.broken.none (sound_part bad more.0 (subst IsSound more.1 sound))) in
+    record {
+      behind = omega (arith, has.counted, found.counted, start, counts, behind);
+      inside = omega (arith, has.counted, found.counted, start, counts, ap length whole, length-append old.bytes piece, length-append bad found.after);
+    }
 
 -- none was acted on before this one, or some were
 pub passes_on : (old now new : Waiting) (body : List ℕ) → (now ≡ old) ⊎ Passes old now → BeginsWith now.bytes body new.bytes → fed new ≡ fed now → Passes old new

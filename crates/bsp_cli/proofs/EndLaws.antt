@@ -1,5 +1,5 @@
 -- Which status an order has.
-use Rattle.std.proofs.Common.{◌≡◌, ◌<◌, ◌≤◌, ℕ, ℤ, List, [], ◌∷◌, Bool, true, false, cond, IfSome, Result, Ok, Err, Option, Some, None, refl, subst, arith, lit≤}
+use Rattle.std.proofs.Common.{◌≡◌, ◌<◌, ◌≤◌, ℕ, ℤ, List, [], ◌∷◌, Bool, true, false, cond, IfSome, Result, Ok, Err, Some, None, refl, subst, arith, lit≤}
 use Rattle.std.specs.Prelude.{codes}
 use Rattle.session_law.specs.declared.InputEnd.TheVariants.{Border, Damaged, Failed}
 use Rattle.rpc_peer.specs.Meaning.{meaning}

@@ -1,5 +1,5 @@
 -- How a whole run ends.
-use Rattle.std.proofs.Common.{◌≡◌, ◌⊎◌, inl, inr, ℕ, List, Option, Some, None, true, false, refl, subst, ap, arith}
+use Rattle.std.proofs.Common.{◌≡◌, ◌⊎◌, inl, inr, ℕ, List, Option, Some, None, true, false, refl, subst, arith}
 use Rattle.bsp_edge.specs.Faults.{Rose}
 use Rattle.rpc_frame.specs.declared.damage.Damage.{Damage}
 use Rattle.bsp_cli.specs.Notes.{Noted, whole, failed, note_for, note_of}

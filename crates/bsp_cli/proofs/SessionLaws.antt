@@ -1,25 +1,25 @@
 -- How a session ends.
-use Rattle.std.proofs.Common.{◌≡◌, inl, inr, ◌+◌, ◌++◌, ◌≤◌, ◌==◌, ℕ, Bool, true, false, List, [], ◌∷◌, length, take, Option, Some, None, IfSome, refl, sym, ap, ◌∙◌, subst, lit≤, arith, append-nil, length-append}
+use Rattle.std.proofs.Common.{◌≡◌, inl, inr, ◌+◌, ◌++◌, ◌≤◌, ◌==◌, ℕ, suc, Bool, true, false, List, [], ◌∷◌, length, take, Option, Some, None, IfSome, refl, sym, ap, ◌∙◌, subst, lit≤, arith, append-nil, length-append}
 use Rattle.std.proofs.lemmas.Bool.Decides.{nat_tests}
 use Rattle.bsp_edge.specs.Course.{Course}
 use Rattle.bsp_edge.specs.Faults.{Rose}
 use Rattle.bsp_edge.specs.Streams.{Gives}
 use Rattle.rpc_frame.specs.Frames.{HasNoFrame, FramesTo, Frames, Waiting}
 use Rattle.rpc_frame.specs.declared.damage.Damage.{Damage}
-use Rattle.rpc_frame.specs.Damages.{DamageAt}
+use Rattle.rpc_frame.specs.Damages.{DamageAt, HasDamage}
 use Rattle.rpc_frame.proofs.DamageLaws.{damage_behind}
 use Rattle.rpc_frame.proofs.FrameLaws.{frames_apart, nil_no_frame, broken_rest, broken_not_sound, sound_front}
 use Rattle.session_law.specs.declared.InputEnd.{InputEnd}
 use Rattle.session_law.specs.declared.InputEnd.TheVariants as input_end
 use Rattle.session_law.specs.AnswersAll.{IsSettled}
-use Rattle.session_law.specs.Order.{Event, ends, takes_of}
+use Rattle.session_law.specs.Order.{ends, takes_of}
 use Rattle.session_law.specs.Past.{end_status}
 use Rattle.bsp_cli.proofs.EndLaws.{exit_within}
 use Rattle.rpc_peer.specs.Said.{Said}
 use Rattle.session_core.specs.Standing.{StandsFor, Knows, onto, IsQuiet, IsAlive}
 use Rattle.session_core.specs.State.{state_of}
 use Rattle.session_core.specs.declared.session.Core.{Core}
-use Rattle.session_core.proofs.StandingLaws.{none_open, stood_lawful, known, settled, takes_of-onto, end_of-onto, status_after-onto, status_within}
+use Rattle.session_core.proofs.StandingLaws.{none_open, stood_lawful, known, settled, takes_of-onto, end_of-onto, status_after-onto}
 use Rattle.bsp_cli.specs.Progress.{Progress, Stopped, EndsBy, IsOut, Finishes, ended, halted, HasEnded, IsReady, fed}
 use Rattle.bsp_cli.specs.Session.{Change, InputChange, TreeChange, EndsFor, HasNoMore, IsDamage, Session, changed, input_changed, tree_changed}
 use Rattle.bsp_cli.specs.Places.{EndsInLast, WhereTold}
@@ -102,15 +102,20 @@ told_damage Failed found same = absurd (cc)
 some_end : {how : InputEnd} {end : Option InputEnd} → end ≡ Some how → end ≡ None → ⊥
 some_end found none = cc
 
-stopped_sink : (stop : Stop) (f g : ℕ) → (stop ≡ Sink → Rose f g) → status_by (ended_by.Stopped stop) ≡ 4 → Rose f g
-stopped_sink Sink f g rose four = rose refl
-stopped_sink NoMemory f g rose four = absurd (omega arith)
+-- the status 4 is that of a sink that failed
+stopped_sink : {P : Type 0} (stop : Stop) → (stop ≡ Sink → P) → status_by (ended_by.Stopped stop) ≡ 4 → P
+stopped_sink Sink fact four = fact refl
+stopped_sink NoMemory fact four = absurd (omega arith)
 
 -- ---- why the input ended
 
 has_more : (stream : Waiting) (input : InputChange) (read : List ℕ) → length read ≡ fed stream → IsOut stream input.new → HasNoMore input read
 has_more stream input read count (inl dry) = inl dry
 has_more stream input read count (inr limit) = inr (count ∙ limit)
+
+-- the damage that ends an input lies in the last piece that was read
+abbrev TellsLast : Ending → Waiting → Option Course → Option Course → Type 0
+TellsLast ending stream course0 course = (damage : Damage) → ending ≡ Damaged damage → HasDamage stream damage → WhereTold (EndsInLast (suc damage.place)) course0 course
 
 -- the damage of the bytes that wait is that of all bytes read
 read_damage : (read : List ℕ) (bodies : List (List ℕ)) (rest : List ℕ) (given_end place : ℕ) (damage : Damage) → FramesTo read bodies rest → length read ≡ given_end + length rest
@@ -122,17 +127,18 @@ read_damage read bodies rest given_end place damage frames count counted at =
     rw (parts.whole, same) there
 
 is_damage : (damage : Damage) (stream : Waiting) (input : InputChange) (read : List ℕ) (bodies : List (List ℕ)) → FramesTo read bodies stream.bytes → length read ≡ fed stream
-    → EndsBy (Damaged damage) stream input.new input.faults_old input.faults_new → IsDamage (Some damage) input read stream.bytes
-is_damage damage stream input read bodies frames count (inl has) =
-    inl (read_damage read bodies stream.bytes stream.given_end has.place damage frames count has.counted has.at)
-is_damage damage stream input read bodies frames count (inr inside) =
+    → (HasDamage stream damage → WhereTold (EndsInLast (suc damage.place)) input.course_old input.course_new) → EndsBy (Damaged damage) stream input.new input.faults_old input.faults_new
+    → IsDamage (Some damage) input read stream.bytes
+is_damage damage stream input read bodies frames count last (inl has) =
+    inl (record { at = read_damage read bodies stream.bytes stream.given_end has.place damage frames count has.counted has.at; last = last has })
+is_damage damage stream input read bodies frames count last (inr inside) =
     inr (record { sound = sound_front read bodies stream.bytes frames inside.sound; kind = inside.kind; place = inside.place ∙ sym count; inside = inside.inside; no_more = has_more stream input read count inside.out })
 
 ends_for : (ending : Ending) (stream : Waiting) (input : InputChange) (read : List ℕ) (bodies : List (List ℕ)) → FramesTo read bodies stream.bytes → length read ≡ fed stream
-    → EndsBy ending stream input.new input.faults_old input.faults_new → EndsFor (Some (how_of ending)) (damage_of ending) input read stream.bytes
-ends_for Border stream input read bodies frames count cause = (cause.0, has_more stream input read count cause.1)
-ends_for (Damaged damage) stream input read bodies frames count cause = is_damage damage stream input read bodies frames count cause
-ends_for Failed stream input read bodies frames count cause =
+    → TellsLast ending stream input.course_old input.course_new → EndsBy ending stream input.new input.faults_old input.faults_new → EndsFor (Some (how_of ending)) (damage_of ending) input read stream.bytes
+ends_for Border stream input read bodies frames count last cause = (cause.0, has_more stream input read count cause.1)
+ends_for (Damaged damage) stream input read bodies frames count last cause = is_damage damage stream input read bodies frames count (last damage refl) cause
+ends_for Failed stream input read bodies frames count last cause =
     (λ broken. broken_not_sound stream.bytes (broken_rest read bodies stream.bytes frames broken) cause.0, cause.1)
 
 -- ---- the three ways
@@ -188,8 +194,9 @@ module _ (left0 left : Option (List ℕ)) (course0 course : Option Course) (star
         sink = λ four. absurd (omega (arith, same));
       }
 
-  session_stops : (given_end status : ℕ) → 4 ≤ status → status ≤ 5 → Stopped given_end left0 left start now → Session input (files start now) (written start now out_old out_new) status given_end None
-  session_stops given_end status low high so =
+  session_stops : (given_end status : ℕ) → 4 ≤ status → status ≤ 5 → (status ≡ 4 → WhereTold (EndsInLast given_end) course0 course) → Stopped given_end left0 left start now
+      → Session input (files start now) (written start now out_old out_new) status given_end None
+  session_stops given_end status low high last so =
       record {
         order = so.order;
         lawful = so.lawful;
@@ -200,7 +207,7 @@ module _ (left0 left : Option (List ℕ)) (course0 course : Option Course) (star
         frames = taken_frames so.read (takes_of so.order) so.waiting given_end so.frames so.count;
         counts = rw so.unended refl;
         ends_for = rw so.unended tt;
-        in_last = λ small. absurd (omega arith);
+        in_last = λ small none. last (omega arith);
         hands = so.tells.hands;
         failures = so.tells.failures;
         tail = so.tail;
@@ -213,18 +220,18 @@ module _ (left0 left : Option (List ℕ)) (course0 course : Option Course) (star
       }
 
   -- the session had to stop before an end of its input
-  pub serves_stop : (given_end : ℕ) (stop : Stop) → (stop ≡ Sink → Rose out_old out_new) → Stopped given_end left0 left start now
-      → Serves input (files start now) (written start now out_old out_new) (ended_by.Stopped stop) given_end
-  serves_stop given_end stop rose so =
+  pub serves_stop : (given_end : ℕ) (stop : Stop) → (stop ≡ Sink → Rose out_old out_new) → (stop ≡ Sink → WhereTold (EndsInLast given_end) course0 course)
+      → Stopped given_end left0 left start now → Serves input (files start now) (written start now out_old out_new) (ended_by.Stopped stop) given_end
+  serves_stop given_end stop rose last so =
       record {
         damage = None;
-        session = session_stops given_end (status_by (ended_by.Stopped stop)) (stopped_high stop) (stopped_within stop) so;
+        session = session_stops given_end (status_by (ended_by.Stopped stop)) (stopped_high stop) (stopped_within stop) (stopped_sink stop last) so;
         told = λ found other. absurd (cc);
-        sink = stopped_sink stop out_old out_new rose;
+        sink = stopped_sink stop rose;
       }
 
 module _ (left0 left : Option (List ℕ)) (course0 course : Option Course) (start middle : Told) (given : Option (List ℕ)) (in_old in_new out_old out_new : ℕ) (c d : Core) (stream : Waiting) (ending : Ending)
-    (so : Progress c stream left0 left start middle) (ready : IsReady c) (drained : HasNoFrame stream.bytes) (cause : EndsBy ending stream left in_old in_new) where
+    (so : Progress c stream left0 left start middle) (ready : IsReady c) (drained : HasNoFrame stream.bytes) (cause : EndsBy ending stream left in_old in_new) (last : TellsLast ending stream course0 course) where
   abbrev now : Told
   now = told given middle.handed middle.faults
 
@@ -262,7 +269,7 @@ module _ (left0 left : Option (List ℕ)) (course0 course : Option Course) (star
         rest = stream.bytes;
         frames = ended_frames acts.messages;
         counts = rw ended (sym so.count);
-        ends_for = rw ended (ends_for ending stream come so.read (takes_of so.order) so.frames so.count cause);
+        ends_for = rw ended (ends_for ending stream come so.read (takes_of so.order) so.frames so.count last cause);
         in_last = λ _ none. absurd (some_end ended none);
         hands = tells.hands;
         failures = tells.failures;
@@ -289,8 +296,8 @@ module _ (left0 left : Option (List ℕ)) (course0 course : Option Course) (star
         rest = stream.bytes;
         frames = ended_frames halts.messages;
         counts = rw ended (sym so.count);
-        ends_for = rw ended (ends_for ending stream come so.read (takes_of so.order) so.frames so.count cause);
-        in_last = λ small. absurd (omega arith);
+        ends_for = rw ended (ends_for ending stream come so.read (takes_of so.order) so.frames so.count last cause);
+        in_last = λ small none. absurd (some_end ended none);
         hands = tells.hands;
         failures = tells.failures;
         tail = halts.tail;
@@ -318,7 +325,7 @@ module _ (left0 left : Option (List ℕ)) (course0 course : Option Course) (star
         damage = damage_of ending;
         session = ends_stopped (status_by (ended_by.Stopped stop)) (stopped_high stop) (stopped_within stop) halts;
         told = λ found other. absurd (cc);
-        sink = stopped_sink stop out_old out_new (λ same. rose (ap ended_by.Stopped same));
+        sink = stopped_sink stop (λ same. rose (ap ended_by.Stopped same));
       }
 
 -- ---- at the start
@@ -340,7 +347,7 @@ starts core stream left now stands new =
 pub serves_nothing : (left : Option (List ℕ)) (course : Option Course) (now : Told) (in_faults out_faults : ℕ)
     → Serves (input_changed left left course course in_faults in_faults) (files now now) (written now now out_faults out_faults) (ended_by.Stopped NoMemory) 0
 serves_nothing left course now in_faults out_faults =
-    serves_stop left left course course now now in_faults in_faults out_faults out_faults 0 NoMemory (λ other. absurd (cc)) (record {
+    serves_stop left left course course now now in_faults in_faults out_faults out_faults 0 NoMemory (λ other. absurd (cc)) (λ other. absurd (cc)) (record {
       order = [];
       lawful = record { each = tt };
       unended = refl;

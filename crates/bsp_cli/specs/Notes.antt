@@ -1,5 +1,5 @@
 -- What the program says beside its output.
-use Rattle.std.specs.Prelude.{◌≡◌, ◌==◌, ℕ, List, [], ◌++◌, codes, decimal, Option, Some, None, if◌then◌else◌}
+use Rattle.std.specs.Prelude.{◌==◌, ℕ, List, [], ◌++◌, codes, decimal, Option, Some, None, if◌then◌else◌}
 use Rattle.bsp_edge.specs.Faults.{Rose}
 use Rattle.bsp_edge.specs.Streams.{Gives}
 use Rattle.rpc_frame.specs.declared.damage.Damage.{Damage}

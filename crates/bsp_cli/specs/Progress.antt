@@ -62,6 +62,11 @@ pub record Stopped (given_end : ℕ) (left0 left : Option (List ℕ)) (start now
 
 -- ---- the next piece
 
+-- the damaged byte is one of this many behind so many
+pub record IsWithin (damage : Damage) (before count : ℕ) : Type 0 where
+  pub behind : before ≤ damage.place
+  pub inside : damage.place < before + count
+
 -- a piece of this many bytes was read into the front of `into`
 pub record Fetches (left left_new : Option (List ℕ)) (course course_new : Option Course) (into : List ℕ) (count : ℕ) : Type 0 where
   pub some : 0 < count

@@ -1,5 +1,5 @@
 -- What a run of the program does whose words ask to serve, and of one whose words ask for nothing.
-use Rattle.std.specs.Prelude.{◌≡◌, ◌⊎◌, ℕ, Option, None, Some}
+use Rattle.std.specs.Prelude.{◌≡◌, ℕ, Option, None, Some}
 use Rattle.bsp_edge.specs.Faults.{Rose}
 use Rattle.rpc_frame.specs.declared.damage.Damage.{Damage}
 use Rattle.bsp_cli.specs.Notes.{Noted, note_for}

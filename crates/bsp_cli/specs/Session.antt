@@ -1,7 +1,7 @@
 -- What `serve` does to its input, its tree and its output, whatever they are: the bytes taken, what the
 -- tree handed out and the bytes written are the takes, the hands and the writes of one lawful order, and
 -- the status agrees with it.
-use Rattle.std.specs.Prelude.{◌≡◌, ◌≢◌, ◌⊎◌, ◌+◌, ◌-◌, ◌^◌, ◌++◌, ◌≤◌, ◌<◌, ℕ, List, [], length, take, flat_map, Option, Some, None}
+use Rattle.std.specs.Prelude.{◌≡◌, ◌≢◌, ◌⊎◌, ◌+◌, ◌-◌, ◌^◌, ◌++◌, ◌≤◌, ◌<◌, ℕ, suc, List, [], length, take, flat_map, Option, Some, None}
 use Rattle.bsp_edge.specs.Course.{Course}
 use Rattle.bsp_edge.specs.Faults.{Rose}
 use Rattle.ob_text.specs.Held.{Entries}
@@ -82,10 +82,15 @@ pub record IsTruncated (input : InputChange) (read rest : List ℕ) (damage : Da
   pub inside : rest ≢ []
   pub no_more : HasNoMore input read
 
+-- the bytes have this damage, and its byte lies in the last piece that was read
+pub record IsInLast (input : InputChange) (read : List ℕ) (damage : Damage) : Type 0 where
+  pub at : DamageAt read damage.place damage.kind
+  pub last : WhereTold (EndsInLast (suc damage.place)) input.course_old input.course_new
+
 -- the damage is in the bytes, or at their end
 abbrev pub IsDamage : Option Damage → InputChange → List ℕ → List ℕ → Type 0
 IsDamage None input read rest = ⊥
-IsDamage (Some damage) input read rest = DamageAt read damage.place damage.kind ⊎ IsTruncated input read rest damage
+IsDamage (Some damage) input read rest = IsInLast input read damage ⊎ IsTruncated input read rest damage
 
 -- why the input is found to have ended so
 abbrev pub EndsFor : Option InputEnd → Option Damage → InputChange → List ℕ → List ℕ → Type 0
@@ -112,8 +117,9 @@ pub record Session (input : InputChange) (tree : TreeChange) (output : Change) (
   pub frames : Frames (take taken read) (takes_of order) rest
   pub counts : Counts (end_of order) taken read rest
   pub ends_for : EndsFor (end_of order) damage input read rest
-  -- where the input wasn't found to have ended, the session took an exit, which lies in the last piece that was read
-  pub in_last : status < 4 → end_of order ≡ None → WhereTold (EndsInLast taken) input.course_old input.course_new
+  -- where the input wasn't found to have ended, the session took an exit, or the output failed behind a frame, which lies
+  -- in the last piece that was read
+  pub in_last : status ≤ 4 → end_of order ≡ None → WhereTold (EndsInLast taken) input.course_old input.course_new
   -- its hands are what the tree handed out, and its failures are among the tree's faults
   pub hands : Hands tree.old tree.new (hands_of order)
   pub failures : RoseBy (failures_of order) tree.faults_old tree.faults_new

@@ -1,4 +1,4 @@
-ghost use Rattle.std.specs.Prelude.{◌≡◌, ◌+◌, ◌++◌, ◌<◌, ◌≤◌, ℕ, List, [], length, Option, Some, None, Ok, IfOk, IfSome, OnOk, OnErr, IsErrOf, IsSome};
+ghost use Rattle.std.specs.Prelude.{◌≡◌, ◌+◌, ◌++◌, ◌<◌, ◌≤◌, ℕ, suc, List, [], length, Option, Some, None, Ok, IfOk, IfSome, OnOk, OnErr, IsErrOf, IsSome};
 ghost use Rattle.bsp_edge.specs.Course.{Course};
 ghost use Rattle.bsp_edge.specs.Faults.{Rose};
 ghost use Rattle.bsp_edge.specs.Streams.{Takes};
@@ -9,7 +9,7 @@ ghost use Rattle.rpc_frame.specs.Limits.{stream_limit};
 ghost use Rattle.session_law.specs.Order.{Event};
 ghost use Rattle.session_core.specs.Standing.{StandsFor, IsAlive, IsFree, IsQuiet, status_of};
 ghost use Rattle.bsp_cli.specs.Places.{EndsInLast, IsAt, WhereTold};
-ghost use Rattle.bsp_cli.specs.Progress.{EndsBy, Fetches, Finishes, HasEnded, IsOut, IsReady, MayEnd, MayGoOn, Passes, Progress, Stopped, fed};
+ghost use Rattle.bsp_cli.specs.Progress.{EndsBy, Fetches, Finishes, HasEnded, IsOut, IsReady, IsWithin, MayEnd, MayGoOn, Passes, Progress, Stopped, fed};
 ghost use Rattle.bsp_cli.specs.Served.{Serves};
 ghost use Rattle.bsp_cli.specs.Session.{changed, input_changed, tree_changed};
 ghost use Rattle.bsp_cli.specs.declared.outcome.Ending.{Ending};
@@ -157,6 +157,15 @@ impl Server {
         ensures in_last { IfOk result (λ turn. (status : ℕ) → turn ≡ Turn.Exits status → (start : Option Course)
             → IsAt start (S.course input.old) (fed self.old.decoder)
             → WhereTold (EndsInLast self.new.decoder.given_end) start (S.course input.new)) }
+
+        // Nor behind damage, nor where the output failed.
+        ensures damaged_in_last { IfOk result (λ turn. (damage : Damage)
+            → turn ≡ Turn.Ends (Ending.Damaged damage) → HasDamage self.new.decoder damage
+            → (start : Option Course) → IsAt start (S.course input.old) (fed self.old.decoder)
+            → WhereTold (EndsInLast (suc damage.place)) start (S.course input.new)) }
+        ensures failed_in_last { IsErrOf result Stop.Sink → (start : Option Course)
+            → IsAt start (S.course input.old) (fed self.old.decoder)
+            → WhereTold (EndsInLast self.new.decoder.given_end) start (S.course input.new) }
         ensures stood { OnOk result ((order : List Event) × StandsFor self.new.responder.core order) }
         ensures sink { IsErrOf result Stop.Sink → Rose (K.faults output.old) (K.faults output.new) }
         ensures same { OnOk result (K.faults output.new ≡ K.faults output.old) }
@@ -227,6 +236,7 @@ impl Server {
         requires some { 0 < length piece.now }
         requires limit { fed self.old.decoder + length piece.now ≤ stream_limit }
         requires drained { HasNoFrame self.old.decoder.bytes }
+        requires sound { IsSound self.old.decoder.bytes }
         ensures progress { OnOk result ((left0 left left_new : Option (List ℕ)) (start : Told)
             → Progress self.old.responder.core self.old.decoder left0 left start
             (told (K.given output.old) (T.handed tree.old) (T.faults tree.old))
@@ -250,6 +260,10 @@ impl Server {
         ensures within { result ≡ Ok Turn.GoesOn → fed self.new.decoder ≤ stream_limit }
         ensures passes { IfOk result (λ turn. (status : ℕ) → turn ≡ Turn.Exits status
             → fed self.old.decoder < self.new.decoder.given_end) }
+        ensures damaged { IfOk result (λ turn. (damage : Damage) → turn ≡ Turn.Ends (Ending.Damaged damage)
+            → IsWithin damage (fed self.old.decoder) (length piece.now)) }
+        ensures failed { IsErrOf result Stop.Sink → (fed self.old.decoder < self.new.decoder.given_end)
+            × (fed self.new.decoder ≡ fed self.old.decoder + length piece.now) }
         ensures stood { OnOk result ((order : List Event) × StandsFor self.new.responder.core order) }
         ensures sink { IsErrOf result Stop.Sink → Rose (K.faults output.old) (K.faults output.new) }
         ensures same { OnOk result (K.faults output.new ≡ K.faults output.old) }
@@ -311,6 +325,7 @@ impl Server {
         ensures stood { OnOk result ((order : List Event) × StandsFor self.new.responder.core order) }
         ensures drained { result ≡ Ok None → HasNoFrame self.new.decoder.bytes }
         ensures passes { IfOk result (λ found. IsSome found → Passes self.old.decoder self.new.decoder) }
+        ensures failed { IsErrOf result Stop.Sink → Passes self.old.decoder self.new.decoder }
         ensures sound { OnOk result (IsSound self.old.decoder.bytes → IsSound self.new.decoder.bytes) }
         ensures damage { OnOk result ((damage : Damage) → HasDamage self.old.decoder damage
             → HasDamage self.new.decoder damage) }

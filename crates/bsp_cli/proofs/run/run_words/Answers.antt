@@ -1,5 +1,4 @@
-use Rattle.std.proofs.Common.{refl}
-use Rattle.bsp_cli.proofs.RunLaws.{served, read_failed, sink_failed, served_known, usage_not_read, usage_sink}
+use Rattle.bsp_cli.proofs.RunLaws.{served, read_failed, sink_failed, served_known}
 use Rattle.bsp_cli.proofs.WritingLaws.{on_ok}
 use Rattle.bsp_cli.proofs.run.run_words.Goals as goal
 

@@ -41,6 +41,11 @@ returns-in-Err-act-clause-stopped g c = λ left0 left start so.
     stopped_at c.frames.self.responder.core c.act.new.self.core c.frames.self.decoder c.next_body.new.self c.as_slice.result.now left0 left start _ _ begins c.in-Ok-Some.ensures.count
     (c.frames.invariant.progress left0 left start so) c.in-Err-act.ensures.stops
 
+pub returns-in-Err-act-clause-failed : goal.returns-in-Err-act-clause-failed
+returns-in-Err-act-clause-failed g c = λ sink.
+    let begins = rw c.in-Ok-Some.field-0-is at c.in-Ok-Some.ensures.some in
+    passes_on c.args.self.now.decoder c.frames.self.decoder c.next_body.new.self c.in-Ok-Some.body.items c.frames.invariant.passes begins c.in-Ok-Some.ensures.count
+
 pub frames-preserved : goal.frames-preserved
 frames-preserved g c =
     let before = c.frames.invariant in

@@ -1,7 +1,11 @@
 use Rattle.std.proofs.Common.{◌≡◌, ◌∙◌, [], Err, refl, ap, subst, arith}
 use Rattle.bsp_edge.specs.Faults.{Rose}
 use Rattle.rpc_frame.proofs.FrameLaws.{begins_sound, nil_begins, nil_no_frame}
+use Rattle.rpc_frame.specs.declared.damage.Damage.{Damage}
+use Rattle.rpc_frame.specs.Damages.{HasDamage}
 use Rattle.bsp_cli.specs.Progress.{fed}
+use Rattle.bsp_cli.specs.declared.outcome.Ending.TheVariants.{Damaged}
+use Rattle.bsp_cli.specs.declared.serve.Turn.TheVariants.{Ends}
 use Rattle.bsp_cli.proofs.CourseLaws.{at_start}
 use Rattle.bsp_cli.proofs.SessionLaws.{starts, same_cause, serves_exit, serves_stop, serves_end}
 use Rattle.bsp_cli.proofs.serve.Server.serve.Goals as goal
@@ -45,8 +49,10 @@ returns-in-Ok-Ends g c =
     let progress = c.in-Ok-Ends.ensures.progress _ _ so.progress in
     let ends = (rw c.in-Ok-Ends.field-0-is at c.in-Ok-Ends.ensures.ends) c.in-Ok-Ends.ending refl in
     let cause = same_cause c.in-Ok-Ends.ending c.take_turn.new.self.decoder _ _ _ _ so.input_same ends.cause in
+    let last = λ (damage : Damage) (same : c.in-Ok-Ends.ending ≡ Damaged damage) (has : HasDamage c.take_turn.new.self.decoder damage).
+    (rw c.in-Ok-Ends.field-0-is at c.in-Ok-Ends.ensures.damaged_in_last) damage (ap Ends same) has _ so.further in
     let taken : c.count.result ≡ fed c.take_turn.new.self.decoder = c.count.ensures ∙ ap fed c.finish.ensures.decoder in
-    rw taken (serves_end _ _ _ _ _ _ _ _ _ _ _ c.take_turn.new.self.responder.core c.finish.new.self.responder.core c.take_turn.new.self.decoder c.in-Ok-Ends.ending progress ends.ready ends.drained cause c.finish.result
+    rw taken (serves_end _ _ _ _ _ _ _ _ _ _ _ c.take_turn.new.self.responder.core c.finish.new.self.responder.core c.take_turn.new.self.decoder c.in-Ok-Ends.ending progress ends.ready ends.drained cause last c.finish.result
     (λ stopped. subst (λ before. Rose before (g.K.Sink.faults c.finish.new.output)) (c.in-Ok-Ends.ensures.same ∙ so.output_same) (c.finish.ensures.sink stopped)) c.finish.ensures.finishes)
 
 pub returns-in-Err : goal.returns-in-Err
@@ -54,4 +60,5 @@ returns-in-Err g c =
     let so = c.turns.invariant in
     let stopped = c.in-Err.ensures.stopped _ _ so.progress in
     rw c.given_end-in-Err.ensures (serves_stop _ _ _ _ _ _ _ _ _ _ c.take_turn.new.self.decoder.given_end c.in-Err.stop
-    (λ same. subst (λ before. Rose before (g.K.Sink.faults c.take_turn.new.output)) so.output_same (c.in-Err.ensures.sink (ap Err same))) stopped)
+    (λ same. subst (λ before. Rose before (g.K.Sink.faults c.take_turn.new.output)) so.output_same (c.in-Err.ensures.sink (ap Err same)))
+    (λ same. c.in-Err.ensures.failed_in_last (ap Err same) _ so.further) stopped)

@@ -1,7 +1,10 @@
-use Rattle.std.proofs.Common.{◌≡◌, ◌+◌, ◌∙◌, length, refl, arith}
-use Rattle.bsp_cli.proofs.CourseLaws.{fed_more, passes_fed}
+use Rattle.std.proofs.Common.{◌≡◌, ◌+◌, ◌∙◌, length, refl, subst, arith}
+use Rattle.bsp_cli.proofs.CourseLaws.{damage_within, fed_more, passes_fed}
+use Rattle.rpc_frame.specs.Damages.{HasDamage}
 use Rattle.bsp_cli.specs.Progress.{fed}
 use Rattle.bsp_cli.proofs.ProgressLaws.{progress_feeds, stopped_feeding}
+use Rattle.bsp_cli.proofs.WritingLaws.{stopped_so}
+use Rattle.bsp_cli.specs.declared.stop.Stop.TheVariants.{Sink}
 use Rattle.bsp_cli.proofs.serve.Server.take_piece.Goals as goal
 
 pub returns-in-Ok-Some-clause-progress : goal.returns-in-Ok-Some-clause-progress
@@ -44,3 +47,15 @@ pub returns-in-None-clause-within : goal.returns-in-None-clause-within
 returns-in-None-clause-within g c = λ same.
     let count : fed c.act_on_frames.new.self.decoder ≡ fed c.args.self.now.decoder + length c.args.piece.now = c.act_on_frames.ensures.fed ∙ fed_more _ _ _ c.in-Ok.ensures.fed in
     omega (arith, count, c.requires.limit)
+
+pub returns-in-Some-clause-damaged : goal.returns-in-Some-clause-damaged
+returns-in-Some-clause-damaged g c = λ damage same.
+    let found : c.in-Some.damage ≡ damage = cc in
+    let has : HasDamage c.feed.new.self.decoder c.in-Some.damage = rw c.in-Some.is at c.in-Ok.ensures.damaged in
+    damage_within c.args.self.now.decoder c.feed.new.self.decoder c.args.piece.now damage c.in-Ok.ensures.fed c.requires.sound (subst (HasDamage c.feed.new.self.decoder) found has)
+
+pub returns-in-Err-act_on_frames-clause-failed : goal.returns-in-Err-act_on_frames-clause-failed
+returns-in-Err-act_on_frames-clause-failed g c = λ sink. (
+  passes_fed c.args.self.now.decoder c.feed.new.self.decoder c.act_on_frames.new.self.decoder c.args.piece.now c.in-Ok.ensures.fed c.requires.drained (c.in-Err-act_on_frames.ensures.failed (stopped_so c.in-Err-act_on_frames.stop Sink sink)),
+  c.act_on_frames.ensures.fed ∙ fed_more _ _ _ c.in-Ok.ensures.fed,
+)

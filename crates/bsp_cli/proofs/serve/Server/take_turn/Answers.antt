@@ -1,8 +1,13 @@
-use Rattle.std.proofs.Common.{◌≡◌, ◌+◌, ◌<◌, ◌∙◌, ℕ, List, Option, ap, length, arith}
+use Rattle.std.proofs.Common.{◌≡◌, ◌+◌, ◌<◌, ◌∙◌, ℕ, suc, List, Option, ap, length, arith}
 use Rattle.bsp_edge.specs.Course.{Course}
+use Rattle.rpc_frame.specs.declared.damage.Damage.{Damage}
+use Rattle.rpc_frame.specs.Damages.{HasDamage}
+use Rattle.rpc_frame.proofs.DamageLaws.{damage_broken}
+use Rattle.rpc_frame.proofs.FrameLaws.{broken_not_sound}
 use Rattle.bsp_cli.specs.Places.{EndsInLast, IsAt, WhereTold}
-use Rattle.bsp_cli.specs.Progress.{MayEnd, fed}
+use Rattle.bsp_cli.specs.Progress.{IsWithin, MayEnd, fed}
 use Rattle.bsp_cli.specs.declared.outcome.Ending.{Ending}
+use Rattle.bsp_cli.specs.declared.outcome.Ending.TheVariants.{Damaged}
 use Rattle.bsp_cli.specs.declared.serve.Turn.{Turn}
 use Rattle.bsp_cli.specs.declared.serve.Turn.TheVariants.{Ends, Exits}
 use Rattle.bsp_cli.proofs.CourseLaws.{came_further, in_last}
@@ -48,6 +53,30 @@ returns-in-Piece-clause-in_last g c =
     in_last start (g.S.Source.course c.args.input.now) (g.S.Source.course c.fetch.new.input) (fed c.args.self.now.decoder) c.in-Piece.count c.take_piece.new.self.decoder.given_end at piece.moves (passes status same)
     (omega (arith, counted, c.split_at.ensures.front_len)))
     c.take_piece.ensures.count c.take_piece.ensures.passes
+
+pub returns-in-Piece-clause-damaged_in_last : goal.returns-in-Piece-clause-damaged_in_last
+returns-in-Piece-clause-damaged_in_last g c =
+    let piece = c.fetch.ensures.piece c.in-Piece.count c.in-Piece.is in
+    if_ok_then c.take_piece.result
+    (λ (turn : Turn). (damage : Damage) → turn ≡ Ends (Damaged damage) → IsWithin damage (fed c.args.self.now.decoder) (length c.split_at.result.0.now))
+    (λ (turn : Turn). (damage : Damage) → turn ≡ Ends (Damaged damage) → HasDamage c.take_piece.new.self.decoder damage → (start : Option Course) → IsAt start (g.S.Source.course c.args.input.now) (fed c.args.self.now.decoder)
+    → WhereTold (EndsInLast (suc damage.place)) start (g.S.Source.course c.fetch.new.input))
+    (λ turn within. λ damage same has start at.
+    let found = within damage same in
+    in_last start (g.S.Source.course c.args.input.now) (g.S.Source.course c.fetch.new.input) (fed c.args.self.now.decoder) c.in-Piece.count (suc damage.place) at piece.moves (omega (arith, found.behind))
+    (omega (arith, found.inside, c.split_at.ensures.front_len)))
+    c.take_piece.ensures.damaged
+
+pub returns-in-Piece-clause-failed_in_last : goal.returns-in-Piece-clause-failed_in_last
+returns-in-Piece-clause-failed_in_last g c = λ sink start at.
+    let piece = c.fetch.ensures.piece c.in-Piece.count c.in-Piece.is in
+    let failed = c.take_piece.ensures.failed sink in
+    in_last start (g.S.Source.course c.args.input.now) (g.S.Source.course c.fetch.new.input) (fed c.args.self.now.decoder) c.in-Piece.count c.take_piece.new.self.decoder.given_end at piece.moves failed.0
+    (omega (arith, failed.1, c.split_at.ensures.front_len))
+
+-- damage that is told at the end of the input lies behind all its bytes, which are sound
+pub returns-in-End-clause-damaged_in_last : goal.returns-in-End-clause-damaged_in_last
+returns-in-End-clause-damaged_in_last g c = λ damage same has. absurd (broken_not_sound _ (damage_broken _ has.place damage.kind has.at) c.requires.sound)
 
 pub returns-in-End-clause-progress : goal.returns-in-End-clause-progress
 returns-in-End-clause-progress g c = λ left0 start so.
