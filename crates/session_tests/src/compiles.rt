@@ -145,8 +145,9 @@ const PIECE_BACK_FIRST: &[u8] =
 
 const PIECE_BACK: &[u8] = b"],\"reset\":false,\"textDocument\":{\"uri\":\"file:///w/A.Mod\"}}}";
 
-/// A bad character at this place.
-fn item(alloc: Global, start: u64) -> Result<String, Fail> {
+/// The bad character of this number.
+fn item(alloc: Global, number: u32) -> Result<String, Fail> {
+    let start = 10 + 2 * u64::from(number);
     Ok(format!(in alloc;
         "{{\"code\":\"badCharacter\",\"message\":\"bad character\",\"range\":{{\"end\":{{\"character\":{},\"line\":0}},\"start\":{{\"character\":{},\"line\":0}}}},\"severity\":1,\"source\":\"oberon\"}}",
         start + 1,
@@ -161,7 +162,7 @@ fn piece(alloc: Global, from: u32, to: u32, back: &[u8]) -> Result<Vec<u8>, Fail
         if number > from {
             bytes.push(b',')?;
         }
-        let item = item(alloc, 10 + 2 * u64::from(number))?;
+        let item = item(alloc, number)?;
         bytes.extend_from_slice(item.as_bytes())?;
     }
     bytes.extend_from_slice(back)?;
@@ -178,19 +179,14 @@ fn bad_characters(alloc: Global) -> Result<Vec<u8>, Fail> {
     Ok(text)
 }
 
-/// What is published of it.
-fn pieces(alloc: Global) -> Result<[Vec<u8>; 3], Fail> {
-    let first = piece(alloc, 0, 100, PIECE_BACK_FIRST)?;
-    let second = piece(alloc, 100, 200, PIECE_BACK)?;
-    Ok([first, second, piece(alloc, 200, 250, PIECE_BACK)?])
-}
-
 #[test]
 fn publishes_a_long_list_in_pieces(rt: HostRuntime) -> Result<(), Fail> {
     let text = bad_characters(rt.alloc())?;
     let files: [(&[u8], &[u8]); 2] = [FILE_OF_APP, (b"A.Mod", text.as_slice())];
     let mut tree = tree(rt.alloc(), &files, &[], &[])?;
-    let [first, second, third] = pieces(rt.alloc())?;
+    let first = piece(rt.alloc(), 0, 100, PIECE_BACK_FIRST)?;
+    let second = piece(rt.alloc(), 100, 200, PIECE_BACK)?;
+    let third = piece(rt.alloc(), 200, 250, PIECE_BACK)?;
     let answers: [&[u8]; 4] = [
         first.as_slice(),
         second.as_slice(),

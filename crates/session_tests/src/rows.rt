@@ -1,6 +1,6 @@
 use crate::runs::{
     CLOSED, EXIT, Fails, INITIALIZE, INITIALIZED, NOTHING_FAILS, Parts, Row, SHUTDOWN, WORKSPACE,
-    WORKSPACE_ALONE, expect, expect_over, file, framed, joined, plain, tree,
+    WORKSPACE_ALONE, expect, expect_over, expect_whole, file, framed, joined, plain, tree,
 };
 use bsp_cli::{Ended, Status, read_words, run_words};
 use bsp_edge::{MemSink, MemSource};
@@ -130,33 +130,37 @@ const INVALID_BODY: &[u8] =
 const NO_JSON: &[u8] =
     b"{\"error\":{\"code\":-32700,\"message\":\"parse error\"},\"id\":null,\"jsonrpc\":\"2.0\"}";
 
-/// Frames of bodies.
-fn frames(alloc: Global) -> Result<[Vec<u8>; 4], Fail> {
+/// A session with requests before it is opened and behind its shutdown.
+fn early_and_late(alloc: Global) -> Result<Vec<u8>, Fail> {
     let before = framed(alloc, &[COMPILE])?;
-    let early = framed(alloc, &[EARLY_COMPILE])?;
     let behind = framed(alloc, &[COMPILE, UNKNOWN])?;
-    Ok([
-        before,
-        early,
-        behind,
-        framed(alloc, &[LATE_COMPILE, LATE_COMPILE])?,
-    ])
+    joined(
+        alloc,
+        &[
+            before.as_slice(),
+            INITIALIZE,
+            SHUTDOWN,
+            behind.as_slice(),
+            EXIT,
+        ],
+    )
+}
+
+fn early_and_late_answers(alloc: Global) -> Result<Vec<u8>, Fail> {
+    let early = framed(alloc, &[EARLY_COMPILE])?;
+    let late = framed(alloc, &[LATE_COMPILE, LATE_COMPILE])?;
+    joined(
+        alloc,
+        &[early.as_slice(), INITIALIZED, CLOSED, late.as_slice()],
+    )
 }
 
 #[test]
 fn judges_before_and_behind_the_session(rt: HostRuntime) -> Result<(), Fail> {
-    let [before, early, behind, late] = frames(rt.alloc())?;
-    let (before, behind) = (before.as_slice(), behind.as_slice());
-    let taken = 336 + before.len() as u64 + behind.len() as u64;
-    expect(
-        &rt,
-        &plain(
-            &[before, INITIALIZE, SHUTDOWN, behind, EXIT],
-            0,
-            taken,
-            &[early.as_slice(), INITIALIZED, CLOSED, late.as_slice()],
-        ),
-    )
+    let output = early_and_late_answers(rt.alloc())?;
+    let mut tree = tree(rt.alloc(), WORKSPACE_ALONE, &[], &[])?;
+    let session = early_and_late(rt.alloc())?;
+    expect_whole(&rt, &mut tree, session, 0, output.as_slice())
 }
 
 /// A body, and what it is answered.
@@ -183,15 +187,17 @@ const JUDGED: [(&[u8], &[u8]); 8] = [
     ),
 ];
 
+/// A front, and the frame of a body.
+fn with_body(alloc: Global, front: &[u8], body: &[u8]) -> Result<Vec<u8>, Fail> {
+    let frame = framed(alloc, &[body])?;
+    joined(alloc, &[front, frame.as_slice()])
+}
+
 fn expect_judged(rt: &(impl Abort + AllocGlobal), body: &[u8], answer: &[u8]) -> Result<(), Fail> {
-    let sent = framed(rt.alloc(), &[body])?;
-    let answered = framed(rt.alloc(), &[answer])?;
-    let sent = sent.as_slice();
-    let output = [INITIALIZED, answered.as_slice()];
-    expect(
-        rt,
-        &plain(&[INITIALIZE, sent], 1, 203 + sent.len() as u64, &output),
-    )
+    let output = with_body(rt.alloc(), INITIALIZED, answer)?;
+    let mut tree = tree(rt.alloc(), WORKSPACE_ALONE, &[], &[])?;
+    let session = with_body(rt.alloc(), INITIALIZE, body)?;
+    expect_whole(rt, &mut tree, session, 1, output.as_slice())
 }
 
 #[test]
@@ -202,26 +208,26 @@ fn judges_bodies_and_ids(rt: HostRuntime) -> Result<(), Fail> {
     Ok(())
 }
 
-/// A request of the largest size, with blanks behind it.
-fn largest_request(alloc: Global) -> Result<Vec<u8>, Fail> {
-    let mut frame = joined(
+/// A session with a request of the largest size, which has blanks behind it.
+fn largest_session(alloc: Global) -> Result<Vec<u8>, Fail> {
+    let mut session = joined(
         alloc,
         &[
+            INITIALIZE,
             b"Content-Length: 16777216\r\n\r\n{\"jsonrpc\":\"2.0\",\"id\":2,\"method\":\"build/shutdown\"}",
         ],
     )?;
-    frame.resize(28 + 16_777_216, b' ')?;
-    Ok(frame)
+    session.resize(203 + 28 + 16_777_216, b' ')?;
+    session.extend_from_slice(EXIT)?;
+    Ok(session)
 }
 
 #[test]
 fn largest_frame(rt: HostRuntime) -> Result<(), Fail> {
-    let frame = largest_request(rt.alloc())?;
-    let sent = [INITIALIZE, frame.as_slice(), EXIT];
-    expect(
-        &rt,
-        &plain(&sent, 0, 264 + 28 + 16_777_216, &[INITIALIZED, CLOSED]),
-    )
+    let output = joined(rt.alloc(), &[INITIALIZED, CLOSED])?;
+    let mut tree = tree(rt.alloc(), WORKSPACE_ALONE, &[], &[])?;
+    let session = largest_session(rt.alloc())?;
+    expect_whole(&rt, &mut tree, session, 0, output.as_slice())
 }
 
 const FILL: &[u8] = b"................................................................";

@@ -76,7 +76,7 @@ pub struct Left {
     pub notes: MemSink,
 }
 
-pub fn joined(alloc: Global, parts: Parts) -> Result<Vec<u8>, Fail> {
+pub fn joined(alloc: Global, parts: &[&[u8]]) -> Result<Vec<u8>, Fail> {
     let mut bytes = Vec::new(alloc);
     for part in parts {
         bytes.extend_from_slice(part)?;
@@ -84,20 +84,8 @@ pub fn joined(alloc: Global, parts: Parts) -> Result<Vec<u8>, Fail> {
     Ok(bytes)
 }
 
-/// Are these bytes those of the parts, one after the other?
-fn is_joined(bytes: &[u8], parts: Parts) -> bool {
-    let mut rest = bytes;
-    for part in parts {
-        match rest.strip_prefix(*part) {
-            Some(behind) => rest = behind,
-            None => return false,
-        }
-    }
-    rest.is_empty()
-}
-
 /// The frames of these bodies.
-pub fn framed(alloc: Global, bodies: Parts) -> Result<Vec<u8>, Fail> {
+pub fn framed(alloc: Global, bodies: &[&[u8]]) -> Result<Vec<u8>, Fail> {
     let mut bytes = Vec::new(alloc);
     for body in bodies {
         add_frame(alloc, body, &mut bytes)?;
@@ -190,10 +178,22 @@ fn run_from(
     })
 }
 
-fn run(alloc: Global, row: &Row, tree: &mut MemTree) -> Result<Left, Fail> {
-    let bytes = joined(alloc, row.sent)?;
-    let mut input = source(alloc, bytes, row.cuts, row.fails.input)?;
-    run_from(alloc, &mut input, tree, row.fails)
+fn run(
+    alloc: Global,
+    bytes: Vec<u8>,
+    cuts: &[u64],
+    fails: Fails,
+    tree: &mut MemTree,
+) -> Result<Left, Fail> {
+    let mut input = source(alloc, bytes, cuts, fails.input)?;
+    run_from(alloc, &mut input, tree, fails)
+}
+
+fn expect_left(rt: &impl Abort, left: &Left, status: u8, taken: u64, output: &[u8], notes: &[u8]) {
+    assert_eq!(rt; left.ended.status.code(), status);
+    assert_eq!(rt; left.ended.taken, taken);
+    assert!(rt; left.output.given() == output, "other output");
+    assert!(rt; left.notes.given() == notes, "other notes");
 }
 
 /// Runs a row over a tree, and looks at what it leaves.
@@ -202,11 +202,17 @@ pub fn expect_over(
     row: &Row,
     tree: &mut MemTree,
 ) -> Result<(), Fail> {
-    let left = run(rt.alloc(), row, tree)?;
-    assert_eq!(rt; left.ended.status.code(), row.status);
-    assert_eq!(rt; left.ended.taken, row.taken);
-    assert!(rt; is_joined(left.output.given(), row.output), "other output");
-    assert!(rt; left.notes.given() == row.notes, "other notes");
+    let output = joined(rt.alloc(), row.output)?;
+    let bytes = joined(rt.alloc(), row.sent)?;
+    let left = run(rt.alloc(), bytes, row.cuts, row.fails, tree)?;
+    expect_left(
+        rt,
+        &left,
+        row.status,
+        row.taken,
+        output.as_slice(),
+        row.notes,
+    );
     Ok(())
 }
 
@@ -216,18 +222,41 @@ pub fn expect(rt: &(impl Abort + AllocGlobal), row: &Row) -> Result<(), Fail> {
     expect_over(rt, row, &mut tree)
 }
 
-/// Runs a session over a tree that is opened, sends these requests and is closed, and looks at what is answered
+/// Runs a session that is taken whole over a tree, and looks at its status and its output.
+pub fn expect_whole(
+    rt: &(impl Abort + AllocGlobal),
+    tree: &mut MemTree,
+    session: Vec<u8>,
+    status: u8,
+    output: &[u8],
+) -> Result<(), Fail> {
+    let taken = session.len() as u64;
+    let left = run(rt.alloc(), session, &[], NOTHING_FAILS, tree)?;
+    expect_left(rt, &left, status, taken, output, b"");
+    Ok(())
+}
+
+/// A session that is opened, sends these requests and is closed.
+fn session_of(alloc: Global, requests: &[&[u8]]) -> Result<Vec<u8>, Fail> {
+    let sent = framed(alloc, requests)?;
+    joined(alloc, &[INITIALIZE, sent.as_slice(), SHUTDOWN, EXIT])
+}
+
+/// What it is answered, with these answers between.
+fn output_of(alloc: Global, answers: &[&[u8]]) -> Result<Vec<u8>, Fail> {
+    let answered = framed(alloc, answers)?;
+    joined(alloc, &[INITIALIZED, answered.as_slice(), CLOSED])
+}
+
+/// Runs a session that is opened, sends these requests and is closed over a tree, and looks at what is answered
 /// between.
 pub fn expect_answers(
     rt: &(impl Abort + AllocGlobal),
     tree: &mut MemTree,
-    requests: Parts,
-    answers: Parts,
+    requests: &[&[u8]],
+    answers: &[&[u8]],
 ) -> Result<(), Fail> {
-    let sent = framed(rt.alloc(), requests)?;
-    let answered = framed(rt.alloc(), answers)?;
-    let sent = [INITIALIZE, sent.as_slice(), SHUTDOWN, EXIT];
-    let output = [INITIALIZED, answered.as_slice(), CLOSED];
-    let taken = 336 + sent[1].len() as u64;
-    expect_over(rt, &plain(&sent, 0, taken, &output), tree)
+    let output = output_of(rt.alloc(), answers)?;
+    let session = session_of(rt.alloc(), requests)?;
+    expect_whole(rt, tree, session, 0, output.as_slice())
 }
