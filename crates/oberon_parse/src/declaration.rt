@@ -10,6 +10,7 @@ ghost use Rattle.oberon_parse.specs.Machine.{declarations_parts};
 ghost use Rattle.oberon_parse.specs.Reading.{ReadsParts, ReadsSome, StopsAt};
 
 use crate::expression::expr;
+use crate::join::keeping;
 use crate::name::{mark, more_ident_defs};
 use crate::read::{ident, need_symbol, word};
 use crate::stop::Stop;
@@ -34,8 +35,9 @@ pub fn declarations(
         (λ e. StopsAt (declarations_parts levels) given.now e) }
 {
     let (constants, rest) = constants(alloc, given, levels)?;
-    let (types, rest) = types(alloc, rest, levels)?;
-    let (variables, rest) = variables(alloc, rest, levels)?;
+    let (types, rest, constants) = keeping(constants, types(alloc, rest, levels))?;
+    let (variables, rest, others) = keeping((constants, types), variables(alloc, rest, levels))?;
+    let (constants, types) = others;
     let declarations = Declarations {
         constants,
         types,
@@ -98,11 +100,13 @@ fn constant(
         (λ e. StopsAt (want.constants levels ∷ []) (ident_token name ∷ given.now) e) }
 {
     let (export, rest) = mark(given);
-    let (equal, rest) = need_symbol(rest, Symbol::Equal)?;
-    let (value, rest) = expr(alloc, rest, levels)?;
-    let (semicolon, rest) = need_symbol(rest, Symbol::Semicolon)?;
+    let name = IdentDef { name, export };
+    let (equal, rest, name) = keeping(name, need_symbol(rest, Symbol::Equal))?;
+    let (value, rest, name) = keeping(name, expr(alloc, rest, levels))?;
+    let (semicolon, rest, parts) = keeping((name, value), need_symbol(rest, Symbol::Semicolon))?;
+    let (name, value) = parts;
     let item = Constant {
-        name: IdentDef { name, export },
+        name,
         equal,
         value,
         semicolon,
@@ -160,11 +164,13 @@ fn type_declaration(
         (λ e. StopsAt (want.types levels ∷ []) (ident_token name ∷ given.now) e) }
 {
     let (export, rest) = mark(given);
-    let (equal, rest) = need_symbol(rest, Symbol::Equal)?;
-    let (of_type, rest) = any_type(alloc, rest, levels)?;
-    let (semicolon, rest) = need_symbol(rest, Symbol::Semicolon)?;
+    let name = IdentDef { name, export };
+    let (equal, rest, name) = keeping(name, need_symbol(rest, Symbol::Equal))?;
+    let (of_type, rest, name) = keeping(name, any_type(alloc, rest, levels))?;
+    let (semicolon, rest, parts) = keeping((name, of_type), need_symbol(rest, Symbol::Semicolon))?;
+    let (name, of_type) = parts;
     let item = TypeDeclaration {
-        name: IdentDef { name, export },
+        name,
         equal,
         of_type,
         semicolon,
@@ -226,15 +232,15 @@ fn variable(
         (λ e. StopsAt (want.variables levels ∷ []) (ident_token name ∷ given.now) e) }
 {
     let (export, rest) = mark(given);
-    let (next, rest) = more_ident_defs(alloc, rest)?;
-    let (colon, rest) = need_symbol(rest, Symbol::Colon)?;
-    let (of_type, rest) = any_type(alloc, rest, levels)?;
-    let (semicolon, rest) = need_symbol(rest, Symbol::Semicolon)?;
+    let first = IdentDef { name, export };
+    let (next, rest, first) = keeping(first, more_ident_defs(alloc, rest))?;
+    let names = IdentDefs { first, rest: next };
+    let (colon, rest, names) = keeping(names, need_symbol(rest, Symbol::Colon))?;
+    let (of_type, rest, names) = keeping(names, any_type(alloc, rest, levels))?;
+    let (semicolon, rest, parts) = keeping((names, of_type), need_symbol(rest, Symbol::Semicolon))?;
+    let (names, of_type) = parts;
     let item = Variable {
-        names: IdentDefs {
-            first: IdentDef { name, export },
-            rest: next,
-        },
+        names,
         colon,
         of_type,
         semicolon,

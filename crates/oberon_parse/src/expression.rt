@@ -11,9 +11,8 @@ ghost use Rattle.oberon_parse.specs.Tests.{is_symbol, next_is};
 ghost use Rattle.oberon_parse.specs.Machine.{term_parts, simple_parts, expr_parts, exprs_parts, element_parts};
 ghost use Rattle.oberon_parse.specs.Reading.{ReadsParts, ReadsSome, StopsAt};
 
-use crate::read::{
-    add_operator, constant, ident, mul_operator, need_ident, need_symbol, relator, sign, symbol,
-};
+use crate::join::{closed, keeping};
+use crate::read::{add_operator, constant, ident, mul_operator, need_ident, relator, sign, symbol};
 use crate::stop::Stop;
 use ob_text::Span;
 use oberon_scan::{Symbol, Token};
@@ -31,7 +30,7 @@ pub fn expr(alloc: Global, given: &[Token], levels: usize) -> Result<(Expr, &[To
         (λ e. StopsAt (expr_parts levels) given.now e) }
 {
     let (left, rest) = simple(alloc, given, levels)?;
-    let (relation, rest) = relation(alloc, rest, levels)?;
+    let (relation, rest, left) = keeping(left, relation(alloc, rest, levels))?;
     Ok((Expr { left, relation }, rest))
 }
 
@@ -68,7 +67,7 @@ fn simple(alloc: Global, given: &[Token], levels: usize) -> Result<(Simple, &[To
 {
     let (sign, rest) = sign(given);
     let (first, rest) = term(alloc, rest, levels)?;
-    let (terms, rest) = addends(alloc, rest, levels)?;
+    let (terms, rest, first) = keeping(first, addends(alloc, rest, levels))?;
     let simple = Simple {
         sign,
         first,
@@ -107,7 +106,7 @@ fn term(alloc: Global, given: &[Token], levels: usize) -> Result<(Term, &[Token]
         (λ e. StopsAt (term_parts levels) given.now e) }
 {
     let (first, rest) = factor(alloc, given, levels)?;
-    let (factors, rest) = multipliers(alloc, rest, levels)?;
+    let (factors, rest, first) = keeping(first, multipliers(alloc, rest, levels))?;
     let term = Term {
         first,
         rest: factors,
@@ -184,11 +183,10 @@ fn group(
         (λ e. StopsAt (want.factor (suc levels) ∷ []) (symbol_token symbols.OpenParen opening ∷ given.now) e) }
 {
     let (inner, rest) = expr(alloc, given, levels)?;
-    let (closing, rest) = need_symbol(rest, Symbol::CloseParen)?;
-    let boxed = Box::new(alloc, inner)?;
+    let (closing, rest, inner) = closed(alloc, inner, rest, Symbol::CloseParen)?;
     let group = Factor::Group {
         opening,
-        inner: boxed,
+        inner,
         closing,
     };
     Ok((group, rest))
@@ -236,11 +234,10 @@ fn set(
         return Ok((Factor::Set(empty), rest));
     }
     let (elements, rest) = elements(alloc, given, levels)?;
-    let (closing, rest) = need_symbol(rest, Symbol::CloseBrace)?;
-    let boxed = Box::new(alloc, elements)?;
+    let (closing, rest, elements) = closed(alloc, elements, rest, Symbol::CloseBrace)?;
     let set = Set {
         opening,
-        elements: Some(boxed),
+        elements: Some(elements),
         closing,
     };
     Ok((Factor::Set(set), rest))
@@ -254,7 +251,7 @@ fn elements(alloc: Global, given: &[Token], levels: usize) -> Result<(Elements, 
         (λ e. StopsAt (element_parts levels ++ want.elements levels ∷ []) given.now e) }
 {
     let (first, rest) = element(alloc, given, levels)?;
-    let (next, rest) = more_elements(alloc, rest, levels)?;
+    let (next, rest, first) = keeping(first, more_elements(alloc, rest, levels))?;
     let elements = Elements { first, rest: next };
     Ok((elements, rest))
 }
@@ -290,7 +287,7 @@ fn element(alloc: Global, given: &[Token], levels: usize) -> Result<(Element, &[
         (λ e. StopsAt (element_parts levels) given.now e) }
 {
     let (first, rest) = expr(alloc, given, levels)?;
-    let (upper, rest) = upper(alloc, rest, levels)?;
+    let (upper, rest, first) = keeping(first, upper(alloc, rest, levels))?;
     Ok((Element { first, upper }, rest))
 }
 
@@ -385,11 +382,10 @@ fn index(
         (symbol_token symbols.OpenBracket opening ∷ given.now) e) }
 {
     let (indices, rest) = exprs(alloc, given, levels)?;
-    let (closing, rest) = need_symbol(rest, Symbol::CloseBracket)?;
-    let boxed = Box::new(alloc, indices)?;
+    let (closing, rest, indices) = closed(alloc, indices, rest, Symbol::CloseBracket)?;
     let index = Selector::Index {
         opening,
-        indices: boxed,
+        indices,
         closing,
     };
     Ok((index, rest))
@@ -420,11 +416,10 @@ fn call(
         return Ok((empty, rest));
     }
     let (arguments, rest) = exprs(alloc, given, levels)?;
-    let (closing, rest) = need_symbol(rest, Symbol::CloseParen)?;
-    let boxed = Box::new(alloc, arguments)?;
+    let (closing, rest, arguments) = closed(alloc, arguments, rest, Symbol::CloseParen)?;
     let call = Selector::Call {
         opening,
-        arguments: Some(boxed),
+        arguments: Some(arguments),
         closing,
     };
     Ok((call, rest))
@@ -438,7 +433,7 @@ pub fn exprs(alloc: Global, given: &[Token], levels: usize) -> Result<(Exprs, &[
         (λ e. StopsAt (exprs_parts levels) given.now e) }
 {
     let (first, rest) = expr(alloc, given, levels)?;
-    let (next, rest) = more_exprs(alloc, rest, levels)?;
+    let (next, rest, first) = keeping(first, more_exprs(alloc, rest, levels))?;
     let exprs = Exprs { first, rest: next };
     Ok((exprs, rest))
 }

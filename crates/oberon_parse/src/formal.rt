@@ -11,6 +11,7 @@ ghost use Rattle.oberon_parse.specs.Expected as want;
 ghost use Rattle.oberon_parse.specs.Machine.{formal_type_parts, section_parts};
 ghost use Rattle.oberon_parse.specs.Reading.{ReadsParts, StopsAt};
 
+use crate::join::keeping;
 use crate::name::{idents, qualident};
 use crate::read::{need_symbol, need_word, one_less, symbol, word};
 use crate::stop::Stop;
@@ -35,7 +36,7 @@ pub fn formals(
         return Ok((None, given));
     };
     let (found, rest) = rest_of_formals(alloc, rest, levels)?;
-    let (result_type, rest) = result_type(alloc, rest)?;
+    let (result_type, rest, found) = keeping(found, result_type(alloc, rest))?;
     let (sections, closing) = found;
     let formals = Formals {
         opening,
@@ -63,9 +64,9 @@ fn rest_of_formals(
         return Ok(((None, closing), rest));
     }
     let (first, rest) = section(alloc, given, levels)?;
-    let (next, rest) = more_sections(alloc, rest, levels)?;
-    let (closing, rest) = need_symbol(rest, Symbol::CloseParen)?;
+    let (next, rest, first) = keeping(first, more_sections(alloc, rest, levels))?;
     let sections = Sections { first, rest: next };
+    let (closing, rest, sections) = keeping(sections, need_symbol(rest, Symbol::CloseParen))?;
     Ok(((Some(sections), closing), rest))
 }
 
@@ -100,8 +101,8 @@ fn section(alloc: Global, given: &[Token], levels: usize) -> Result<(Section, &[
 {
     let (by_var, rest) = by_var(given);
     let (names, rest) = idents(alloc, rest)?;
-    let (colon, rest) = need_symbol(rest, Symbol::Colon)?;
-    let (of_type, rest) = formal_type(alloc, rest, levels)?;
+    let (colon, rest, names) = keeping(names, need_symbol(rest, Symbol::Colon))?;
+    let (of_type, rest, names) = keeping(names, formal_type(alloc, rest, levels))?;
     let section = Section {
         by_var,
         names,

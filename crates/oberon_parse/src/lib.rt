@@ -8,6 +8,7 @@
 mod declaration;
 mod expression;
 mod formal;
+mod join;
 mod label;
 mod local;
 mod name;

@@ -10,6 +10,7 @@ ghost use Rattle.oberon_parse.specs.Machine.{locals_parts};
 ghost use Rattle.oberon_parse.specs.Reading.{ReadsParts, ReadsSome, StopsAt};
 
 use crate::expression::expr;
+use crate::join::keeping;
 use crate::name::more_idents;
 use crate::read::{ident, need_symbol, word};
 use crate::stop::Stop;
@@ -89,9 +90,10 @@ fn local_constant(
         × (length x.1.now ≤ length given.now))
         (λ e. StopsAt (want.local_constants levels ∷ []) (ident_token name ∷ given.now) e) }
 {
-    let (equal, rest) = need_symbol(given, Symbol::Equal)?;
-    let (value, rest) = expr(alloc, rest, levels)?;
-    let (semicolon, rest) = need_symbol(rest, Symbol::Semicolon)?;
+    let (equal, rest, name) = keeping(name, need_symbol(given, Symbol::Equal))?;
+    let (value, rest, name) = keeping(name, expr(alloc, rest, levels))?;
+    let (semicolon, rest, parts) = keeping((name, value), need_symbol(rest, Symbol::Semicolon))?;
+    let (name, value) = parts;
     let item = LocalConstant {
         name,
         equal,
@@ -154,15 +156,14 @@ fn local_variable(
         × (length x.1.now ≤ length given.now))
         (λ e. StopsAt (want.local_variables levels ∷ []) (ident_token name ∷ given.now) e) }
 {
-    let (next, rest) = more_idents(alloc, given)?;
-    let (colon, rest) = need_symbol(rest, Symbol::Colon)?;
-    let (of_type, rest) = any_type(alloc, rest, levels)?;
-    let (semicolon, rest) = need_symbol(rest, Symbol::Semicolon)?;
+    let (next, rest, first) = keeping(name, more_idents(alloc, given))?;
+    let names = Idents { first, rest: next };
+    let (colon, rest, names) = keeping(names, need_symbol(rest, Symbol::Colon))?;
+    let (of_type, rest, names) = keeping(names, any_type(alloc, rest, levels))?;
+    let (semicolon, rest, parts) = keeping((names, of_type), need_symbol(rest, Symbol::Semicolon))?;
+    let (names, of_type) = parts;
     let item = LocalVariable {
-        names: Idents {
-            first: name,
-            rest: next,
-        },
+        names,
         colon,
         of_type,
         semicolon,

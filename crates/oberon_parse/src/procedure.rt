@@ -14,6 +14,7 @@ ghost use Rattle.oberon_parse.specs.Reading.{ReadsParts, ReadsSome, StopsAt};
 
 use crate::expression::expr;
 use crate::formal::formals;
+use crate::join::keeping;
 use crate::local::locals;
 use crate::name::ident_def;
 use crate::read::{need_ident, need_symbol, need_word, one_less, word};
@@ -69,8 +70,9 @@ fn procedure(
         (λ e. StopsAt (want.procedures (suc levels) ∷ []) (word_token words.Procedure span ∷ given.now) e) }
 {
     let (found, rest) = heading(alloc, given, levels)?;
-    let (behind, rest) = rest_of_procedure(alloc, rest, levels)?;
-    let (separator, rest) = need_symbol(rest, Symbol::Semicolon)?;
+    let (behind, rest, found) = keeping(found, rest_of_procedure(alloc, rest, levels))?;
+    let (separator, rest, parts) = keeping((found, behind), need_symbol(rest, Symbol::Semicolon))?;
+    let (found, behind) = parts;
     let (name, formals, semicolon) = found;
     let (locals, body, returns, end, end_name) = behind;
     let procedure = Procedure {
@@ -104,8 +106,9 @@ fn heading(alloc: Global, given: &[Token], levels: usize) -> Result<(Heading, &[
         given.now e) }
 {
     let (name, rest) = ident_def(alloc, given)?;
-    let (formals, rest) = formals(alloc, rest, levels)?;
-    let (semicolon, rest) = need_symbol(rest, Symbol::Semicolon)?;
+    let (formals, rest, name) = keeping(name, formals(alloc, rest, levels))?;
+    let (semicolon, rest, parts) = keeping((name, formals), need_symbol(rest, Symbol::Semicolon))?;
+    let (name, formals) = parts;
     Ok(((name, formals, semicolon), rest))
 }
 
@@ -131,10 +134,11 @@ fn rest_of_procedure(
         ∷ want.word words.End ∷ want.ident ∷ []) given.now e) }
 {
     let (locals, rest) = locals(alloc, given, levels)?;
-    let (body, rest) = body(alloc, rest, levels)?;
-    let (returns, rest) = returns(alloc, rest, levels)?;
-    let (end, rest) = need_word(rest, Word::End)?;
-    let (end_name, rest) = need_ident(alloc, rest)?;
+    let (body, rest, locals) = keeping(locals, body(alloc, rest, levels))?;
+    let (returns, rest, parts) = keeping((locals, body), returns(alloc, rest, levels))?;
+    let (end, rest, parts) = keeping((parts, returns), need_word(rest, Word::End))?;
+    let (end_name, rest, parts) = keeping(parts, need_ident(alloc, rest))?;
+    let ((locals, body), returns) = parts;
     Ok(((locals, body, returns, end, end_name), rest))
 }
 

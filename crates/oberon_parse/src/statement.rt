@@ -3,23 +3,25 @@
 ghost use Rattle.std.specs.Prelude.{◌≡◌, ◌∷◌, ◌++◌, [], List, max, suc, MatchOption, MatchResult};
 ghost use Rattle.oberon_scan.specs.declared.token.Word.TheVariants as words;
 ghost use Rattle.oberon_scan.specs.declared.token.Token.{Token as AnyToken};
-ghost use Rattle.oberon_tree.specs.Tokens.{word_token, ident_token};
+ghost use Rattle.oberon_scan.specs.declared.token.Symbol.TheVariants as symbols;
+ghost use Rattle.oberon_tree.specs.Tokens.{word_token, symbol_token, ident_token};
 ghost use Rattle.oberon_tree.specs.Print.{print_expr, print_statements, print_more_statements, print_statement, print_elsifs, print_else, print_arm, print_more_arms, print_step};
 ghost use Rattle.oberon_tree.specs.Levels.{depth_of_expr, depth_of_statements, depth_of_more_statements, depth_of_statement, depth_of_elsifs, depth_of_else, depth_of_arm, depth_of_more_arms, depth_of_step};
 ghost use Rattle.oberon_tree.specs.Memory.{expr_tree, statements_tree, more_statements_list, statement_tree, elsifs_list, else_option, arm_tree, more_arms_list, step_option};
 ghost use Rattle.oberon_parse.specs.Expected as want;
-ghost use Rattle.oberon_parse.specs.Machine.{statements_parts, guarded_parts};
+ghost use Rattle.oberon_parse.specs.Machine.{expr_parts, statements_parts, guarded_parts};
 ghost use Rattle.oberon_parse.specs.Reading.{ReadsParts, StopsAt};
 
 use crate::expression::{expr, selectors};
-use crate::label::{first_value, label_upper, more_labels};
+use crate::join::keeping;
+use crate::label::{first_value, rest_of_labels};
 use crate::read::{ident, need_ident, need_symbol, need_word, one_less, symbol, word};
 use crate::stop::Stop;
 use ob_text::Span;
 use oberon_scan::{Symbol, Token, Word};
 use oberon_tree::{
-    Arm, Assignment, Case, Designator, ElsePart, Expr, For, Guarded, Ident, If, Label, Labels,
-    NextArm, NextStatement, Repeat, Statement, Statements, Step, While,
+    Arm, Assignment, Case, Designator, ElsePart, Expr, For, Guarded, Ident, If, NextArm,
+    NextStatement, Repeat, Statement, Statements, Step, While,
 };
 use std::alloc::Global;
 
@@ -36,7 +38,7 @@ pub fn statements(
         (λ e. StopsAt (statements_parts levels) given.now e) }
 {
     let (first, rest) = statement(alloc, given, levels)?;
-    let (next, rest) = more_statements(alloc, rest, levels)?;
+    let (next, rest, first) = keeping(first, more_statements(alloc, rest, levels))?;
     let statements = Statements { first, rest: next };
     Ok((statements, rest))
 }
@@ -145,8 +147,8 @@ fn guarded(
         (λ e. StopsAt (guarded_parts joint levels) given.now e) }
 {
     let (condition, rest) = expr(alloc, given, levels)?;
-    let (span, rest) = need_word(rest, joint)?;
-    let (body, rest) = statements(alloc, rest, levels)?;
+    let (span, rest, condition) = keeping(condition, need_word(rest, joint))?;
+    let (body, rest, condition) = keeping(condition, statements(alloc, rest, levels))?;
     Ok(((condition, span, body), rest))
 }
 
@@ -177,6 +179,29 @@ fn elsifs(
         rest = after;
     }
     Ok((items, rest))
+}
+
+/// `expr THEN stmts {ELSIF expr THEN stmts}`, or the same with DO.
+#[cycle(statement)]
+fn branches(
+    alloc: Global,
+    given: &[Token],
+    joint: Word,
+    levels: usize,
+) -> Result<(((Expr, Span, Statements), Vec<Guarded>), &[Token]), Stop>
+    ensures { MatchResult result
+        (λ x. ReadsParts (guarded_parts joint levels ++ want.elsifs joint levels ∷ []) levels given.now
+        (λ (rest : List AnyToken). print_expr (expr_tree x.0.0.0)
+        (word_token joint x.0.0.1 ∷ print_statements (statements_tree x.0.0.2)
+        (print_elsifs joint (elsifs_list x.0.1.items) rest)))
+        (max (max (depth_of_expr (expr_tree x.0.0.0)) (depth_of_statements (statements_tree x.0.0.2)))
+        (depth_of_elsifs (elsifs_list x.0.1.items)))
+        x.1.now)
+        (λ e. StopsAt (guarded_parts joint levels ++ want.elsifs joint levels ∷ []) given.now e) }
+{
+    let (first, rest) = guarded(alloc, given, joint, levels)?;
+    let (next, rest, first) = keeping(first, elsifs(alloc, rest, joint, levels))?;
+    Ok(((first, next), rest))
 }
 
 /// `[ELSE stmts]`.
@@ -212,11 +237,10 @@ fn conditional(
         (print_statement (statement_tree x.0)) (depth_of_statement (statement_tree x.0)) x.1.now)
         (λ e. StopsAt (want.statement (suc levels) ∷ []) (word_token words.If span ∷ given.now) e) }
 {
-    let (parts, rest) = guarded(alloc, given, Word::Then, levels)?;
-    let (next, rest) = elsifs(alloc, rest, Word::Then, levels)?;
-    let (other, rest) = otherwise(alloc, rest, levels)?;
-    let (end, rest) = need_word(rest, Word::End)?;
-    let (condition, body_word, body) = parts;
+    let (parts, rest) = branches(alloc, given, Word::Then, levels)?;
+    let (other, rest, parts) = keeping(parts, otherwise(alloc, rest, levels))?;
+    let (end, rest, parts) = keeping((parts, other), need_word(rest, Word::End))?;
+    let (((condition, body_word, body), next), other) = parts;
     let first = Guarded {
         word: span,
         condition,
@@ -248,10 +272,8 @@ fn choice(
         (λ e. StopsAt (want.statement (suc levels) ∷ []) (word_token words.Case span ∷ given.now) e) }
 {
     let (value, rest) = expr(alloc, given, levels)?;
-    let (of, rest) = need_word(rest, Word::Of)?;
-    let (first, rest) = arm(alloc, rest, levels)?;
-    let (next, rest) = more_arms(alloc, rest, levels)?;
-    let (end, rest) = need_word(rest, Word::End)?;
+    let (arms, rest, value) = keeping(value, arms(alloc, rest, levels))?;
+    let (of, first, next, end) = arms;
     let case = Case {
         word: span,
         value,
@@ -262,6 +284,29 @@ fn choice(
     };
     let boxed = Box::new(alloc, case)?;
     Ok((Statement::Case(boxed), rest))
+}
+
+/// `OF arm {"|" arm} END`.
+#[cycle(statement)]
+fn arms(
+    alloc: Global,
+    given: &[Token],
+    levels: usize,
+) -> Result<((Span, Arm, Vec<NextArm>, Span), &[Token]), Stop>
+    ensures { MatchResult result
+        (λ x. ReadsParts (want.word words.Of ∷ want.arm levels ∷ want.arms levels ∷ want.word words.End ∷ []) levels given.now
+        (λ (rest : List AnyToken). word_token words.Of x.0.0 ∷ print_arm (arm_tree x.0.1)
+        (print_more_arms (more_arms_list x.0.2.items) (word_token words.End x.0.3 ∷ rest)))
+        (max (depth_of_arm (arm_tree x.0.1)) (depth_of_more_arms (more_arms_list x.0.2.items)))
+        x.1.now)
+        (λ e. StopsAt (want.word words.Of ∷ want.arm levels ∷ want.arms levels ∷ want.word words.End ∷ []) given.now e) }
+{
+    let (of, rest) = need_word(given, Word::Of)?;
+    let (first, rest) = arm(alloc, rest, levels)?;
+    let (next, rest, first) = keeping(first, more_arms(alloc, rest, levels))?;
+    let (end, rest, arms) = keeping((first, next), need_word(rest, Word::End))?;
+    let (first, next) = arms;
+    Ok(((of, first, next, end), rest))
 }
 
 /// `arm = [label {"," label} ":" stmts]`.
@@ -275,14 +320,9 @@ fn arm(alloc: Global, given: &[Token], levels: usize) -> Result<(Arm, &[Token]),
     let Some((first, rest)) = first_value(alloc, given)? else {
         return Ok((Arm::Empty, given));
     };
-    let (upper, rest) = label_upper(alloc, rest)?;
-    let (next, rest) = more_labels(alloc, rest)?;
-    let (colon, rest) = need_symbol(rest, Symbol::Colon)?;
-    let (body, rest) = statements(alloc, rest, levels)?;
-    let labels = Labels {
-        first: Label { first, upper },
-        rest: next,
-    };
+    let (labels, rest) = rest_of_labels(alloc, first, rest)?;
+    let (body, rest, labels) = keeping(labels, statements(alloc, rest, levels))?;
+    let (labels, colon) = labels;
     let arm = Arm::Labelled {
         labels,
         colon,
@@ -327,10 +367,9 @@ fn repetition(
         (depth_of_statement (statement_tree x.0)) x.1.now)
         (λ e. StopsAt (want.statement (suc levels) ∷ []) (word_token words.While span ∷ given.now) e) }
 {
-    let (parts, rest) = guarded(alloc, given, Word::Do, levels)?;
-    let (next, rest) = elsifs(alloc, rest, Word::Do, levels)?;
-    let (end, rest) = need_word(rest, Word::End)?;
-    let (condition, body_word, body) = parts;
+    let (parts, rest) = branches(alloc, given, Word::Do, levels)?;
+    let (end, rest, parts) = keeping(parts, need_word(rest, Word::End))?;
+    let ((condition, body_word, body), next) = parts;
     let first = Guarded {
         word: span,
         condition,
@@ -361,8 +400,8 @@ fn repeat(
         (λ e. StopsAt (want.statement (suc levels) ∷ []) (word_token words.Repeat span ∷ given.now) e) }
 {
     let (body, rest) = statements(alloc, given, levels)?;
-    let (until, rest) = need_word(rest, Word::Until)?;
-    let (condition, rest) = expr(alloc, rest, levels)?;
+    let (until, rest, body) = keeping(body, need_word(rest, Word::Until))?;
+    let (condition, rest, body) = keeping(body, expr(alloc, rest, levels))?;
     let repeat = Repeat {
         word: span,
         body,
@@ -386,15 +425,11 @@ fn counted(
         (print_statement (statement_tree x.0)) (depth_of_statement (statement_tree x.0)) x.1.now)
         (λ e. StopsAt (want.statement (suc levels) ∷ []) (word_token words.For span ∷ given.now) e) }
 {
-    let (variable, rest) = need_ident(alloc, given)?;
-    let (becomes, rest) = need_symbol(rest, Symbol::Becomes)?;
-    let (from, rest) = expr(alloc, rest, levels)?;
-    let (to_word, rest) = need_word(rest, Word::To)?;
-    let (limit, rest) = expr(alloc, rest, levels)?;
-    let (step, rest) = step(alloc, rest, levels)?;
-    let (body_word, rest) = need_word(rest, Word::Do)?;
-    let (body, rest) = statements(alloc, rest, levels)?;
-    let (end, rest) = need_word(rest, Word::End)?;
+    let (start, rest) = start(alloc, given, levels)?;
+    let (limits, rest, start) = keeping(start, limits(alloc, rest, levels))?;
+    let (parts, rest, head) = keeping((start, limits), counted_body(alloc, rest, levels))?;
+    let ((variable, becomes, from), (to_word, limit, step)) = head;
+    let (body_word, body, end) = parts;
     let counted = For {
         word: span,
         variable,
@@ -409,6 +444,65 @@ fn counted(
     };
     let boxed = Box::new(alloc, counted)?;
     Ok((Statement::For(boxed), rest))
+}
+
+/// `DO stmts END`.
+#[cycle(statement)]
+fn counted_body(
+    alloc: Global,
+    given: &[Token],
+    levels: usize,
+) -> Result<((Span, Statements, Span), &[Token]), Stop>
+    ensures { MatchResult result
+        (λ x. ReadsParts (want.word words.Do ∷ statements_parts levels ++ want.word words.End ∷ []) levels given.now
+        (λ (rest : List AnyToken). word_token words.Do x.0.0 ∷ print_statements (statements_tree x.0.1)
+        (word_token words.End x.0.2 ∷ rest))
+        (depth_of_statements (statements_tree x.0.1))
+        x.1.now)
+        (λ e. StopsAt (want.word words.Do ∷ statements_parts levels ++ want.word words.End ∷ []) given.now e) }
+{
+    let (word, rest) = need_word(given, Word::Do)?;
+    let (body, rest) = statements(alloc, rest, levels)?;
+    let (end, rest, body) = keeping(body, need_word(rest, Word::End))?;
+    Ok(((word, body, end), rest))
+}
+
+/// `ident ":=" expr`.
+fn start(
+    alloc: Global,
+    given: &[Token],
+    levels: usize,
+) -> Result<((Ident, Span, Expr), &[Token]), Stop>
+    ensures { MatchResult result
+        (λ x. ReadsParts (want.ident ∷ want.symbol symbols.Becomes ∷ expr_parts levels) levels given.now
+        (λ (rest : List AnyToken). ident_token x.0.0 ∷ symbol_token symbols.Becomes x.0.1 ∷ print_expr (expr_tree x.0.2) rest)
+        (depth_of_expr (expr_tree x.0.2))
+        x.1.now)
+        (λ e. StopsAt (want.ident ∷ want.symbol symbols.Becomes ∷ expr_parts levels) given.now e) }
+{
+    let (variable, rest) = need_ident(alloc, given)?;
+    let (becomes, rest, variable) = keeping(variable, need_symbol(rest, Symbol::Becomes))?;
+    let (from, rest, variable) = keeping(variable, expr(alloc, rest, levels))?;
+    Ok(((variable, becomes, from), rest))
+}
+
+/// `TO expr [BY expr]`.
+fn limits(
+    alloc: Global,
+    given: &[Token],
+    levels: usize,
+) -> Result<((Span, Expr, Option<Step>), &[Token]), Stop>
+    ensures { MatchResult result
+        (λ x. ReadsParts (want.word words.To ∷ expr_parts levels ++ want.some_step levels ∷ []) levels given.now
+        (λ (rest : List AnyToken). word_token words.To x.0.0 ∷ print_expr (expr_tree x.0.1) (print_step (step_option x.0.2) rest))
+        (max (depth_of_expr (expr_tree x.0.1)) (depth_of_step (step_option x.0.2)))
+        x.1.now)
+        (λ e. StopsAt (want.word words.To ∷ expr_parts levels ++ want.some_step levels ∷ []) given.now e) }
+{
+    let (to_word, rest) = need_word(given, Word::To)?;
+    let (limit, rest) = expr(alloc, rest, levels)?;
+    let (step, rest, limit) = keeping(limit, step(alloc, rest, levels))?;
+    Ok(((to_word, limit, step), rest))
 }
 
 /// `[BY expr]`.

@@ -13,6 +13,7 @@ ghost use Rattle.oberon_parse.specs.Machine.{import_parts, module_parts};
 ghost use Rattle.oberon_parse.specs.Reading.{ReadsParts, StopsAt};
 
 use crate::declaration::declarations;
+use crate::join::keeping;
 use crate::procedure::{body, procedures};
 use crate::read::{need_ident, need_symbol, need_word, symbol, word};
 use crate::stop::Stop;
@@ -35,9 +36,13 @@ pub fn any_module(alloc: Global, given: &[Token], levels: usize) -> Result<(Modu
         (λ e. StopsAt (module_parts levels) given.now e) }
 {
     let (found, rest) = heading(alloc, given)?;
-    let (declarations, rest) = declarations(alloc, rest, levels)?;
-    let (procedures, rest) = procedures(alloc, rest, levels)?;
-    let (behind, rest) = rest_of_module(alloc, rest, levels)?;
+    let (declarations, rest, found) = keeping(found, declarations(alloc, rest, levels))?;
+    let (procedures, rest, parts) = keeping(
+        (found, declarations),
+        procedures(alloc, rest, levels),
+    )?;
+    let (behind, rest, parts) = keeping((parts, procedures), rest_of_module(alloc, rest, levels))?;
+    let ((found, declarations), procedures) = parts;
     let (span, name, semicolon, imports) = found;
     let (body, end, end_name, period) = behind;
     let module = Module {
@@ -70,8 +75,8 @@ fn heading(alloc: Global, given: &[Token]) -> Result<(Heading, &[Token]), Stop>
 {
     let (span, rest) = need_word(given, Word::Module)?;
     let (name, rest) = need_ident(alloc, rest)?;
-    let (semicolon, rest) = need_symbol(rest, Symbol::Semicolon)?;
-    let (imports, rest) = imports(alloc, rest)?;
+    let (semicolon, rest, name) = keeping(name, need_symbol(rest, Symbol::Semicolon))?;
+    let (imports, rest, name) = keeping(name, imports(alloc, rest))?;
     Ok(((span, name, semicolon, imports), rest))
 }
 
@@ -89,9 +94,10 @@ fn rest_of_module(alloc: Global, given: &[Token], levels: usize) -> Result<(Rest
         given.now e) }
 {
     let (body, rest) = body(alloc, given, levels)?;
-    let (end, rest) = need_word(rest, Word::End)?;
-    let (end_name, rest) = need_ident(alloc, rest)?;
-    let (period, rest) = need_symbol(rest, Symbol::Period)?;
+    let (end, rest, body) = keeping(body, need_word(rest, Word::End))?;
+    let (end_name, rest, body) = keeping(body, need_ident(alloc, rest))?;
+    let (period, rest, parts) = keeping((body, end_name), need_symbol(rest, Symbol::Period))?;
+    let (body, end_name) = parts;
     Ok(((body, end, end_name, period), rest))
 }
 
@@ -106,8 +112,9 @@ fn imports(alloc: Global, given: &[Token]) -> Result<(Option<Imports>, &[Token])
         return Ok((None, given));
     };
     let (first, rest) = import(alloc, rest)?;
-    let (next, rest) = more_imports(alloc, rest)?;
-    let (semicolon, rest) = need_symbol(rest, Symbol::Semicolon)?;
+    let (next, rest, first) = keeping(first, more_imports(alloc, rest))?;
+    let (semicolon, rest, parts) = keeping((first, next), need_symbol(rest, Symbol::Semicolon))?;
+    let (first, next) = parts;
     let imports = Imports {
         word: span,
         first,

@@ -11,6 +11,7 @@ ghost use Rattle.oberon_parse.specs.Machine.{fields_parts};
 ghost use Rattle.oberon_parse.specs.Reading.{ReadsParts, StopsAt};
 
 use crate::expression::exprs;
+use crate::join::keeping;
 use crate::name::{ident_defs, member, qualident};
 use crate::read::{ident, need_symbol, need_word, symbol, word};
 use crate::stop::Stop;
@@ -58,8 +59,8 @@ fn array(
         (λ e. StopsAt (want.type_part (suc levels) ∷ []) (word_token words.Array span ∷ given.now) e) }
 {
     let (lengths, rest) = exprs(alloc, given, levels)?;
-    let (of, rest) = need_word(rest, Word::Of)?;
-    let (element, rest) = any_type(alloc, rest, levels)?;
+    let (of, rest, lengths) = keeping(lengths, need_word(rest, Word::Of))?;
+    let (element, rest, lengths) = keeping(lengths, any_type(alloc, rest, levels))?;
     let array = ArrayType {
         word: span,
         lengths,
@@ -95,8 +96,9 @@ fn record_type(
         let boxed = Box::new(alloc, empty)?;
         return Ok((Type::Record(boxed), rest));
     }
-    let (lists, rest) = field_lists(alloc, rest, levels)?;
-    let (end, rest) = need_word(rest, Word::End)?;
+    let (lists, rest, base) = keeping(base, field_lists(alloc, rest, levels))?;
+    let (end, rest, parts) = keeping((base, lists), need_word(rest, Word::End))?;
+    let (base, lists) = parts;
     let record = RecordType {
         word: span,
         base,
@@ -120,7 +122,7 @@ fn field_lists(
         (λ e. StopsAt (fields_parts levels ++ want.fields levels ∷ []) given.now e) }
 {
     let (first, rest) = fields(alloc, given, levels)?;
-    let (next, rest) = more_fields(alloc, rest, levels)?;
+    let (next, rest, first) = keeping(first, more_fields(alloc, rest, levels))?;
     let lists = FieldLists { first, rest: next };
     Ok((lists, rest))
 }
@@ -157,8 +159,8 @@ fn fields(alloc: Global, given: &[Token], levels: usize) -> Result<(Fields, &[To
         (λ e. StopsAt (fields_parts levels) given.now e) }
 {
     let (names, rest) = ident_defs(alloc, given)?;
-    let (colon, rest) = need_symbol(rest, Symbol::Colon)?;
-    let (of_type, rest) = any_type(alloc, rest, levels)?;
+    let (colon, rest, names) = keeping(names, need_symbol(rest, Symbol::Colon))?;
+    let (of_type, rest, names) = keeping(names, any_type(alloc, rest, levels))?;
     let fields = Fields {
         names,
         colon,

@@ -6,10 +6,130 @@ use Rattle.oberon_parse.proofs.Steps.{skip, skip_selectors}
 use Rattle.oberon_parse.proofs.Expand.{expand_call, expand_set}
 use Rattle.oberon_parse.proofs.Joins.{entered_relator, entered_add, entered_mul, single_factor, refuse_factor, no_levels, no_level, place_reads, addends_push, addends_depth, multipliers_push, multipliers_depth, selectors_push, selectors_depth, more_elements_push, more_elements_depth, more_exprs_push, more_exprs_depth}
 use Rattle.oberon_tree.specs.Tokens.{symbol_token}
-use Rattle.oberon_tree.proofs.ExpressionMemory.{relation_made, simple_made, term_made, set_made, elements_made, upper_made, exprs_made, call_held}
+use Rattle.oberon_tree.proofs.ExpressionMemory.{expr_made, relation_made, simple_made, term_made, set_made, elements_made, element_made, upper_made, exprs_made, call_held}
 use Rattle.oberon_parse.specs.Expected as want
 use Rattle.oberon_scan.specs.declared.token.Symbol.TheVariants as symbols
 use Rattle.oberon_parse.proofs.expression.+expression.Goals as goal
+
+pub expr-returns-in_err-left : goal.expr-returns-in_err-left
+expr-returns-in_err-left t c =
+    exits _ _ c.from_residual.result c.in_err-left.field-0.0 c.from_residual.ensures.1
+    (via (simple_parts c.args.levels) (expr_parts c.args.levels) _ c.args.given.now _ (λ s. want.some_relation c.args.levels ∷ s) (λ s. refl) c.in_err-left.ensures)
+
+pub expr-returns-in_err-relation : goal.expr-returns-in_err-relation
+expr-returns-in_err-relation t c =
+    exits _ _ c.from_residual-in_err-relation.result c.in_err-relation.field-0.0 c.from_residual-in_err-relation.ensures.1
+    (via (want.some_relation c.args.levels ∷ []) (expr_parts c.args.levels) _ c.args.given.now _ (λ s. s) (λ s. c.in_ok-left.ensures.moves (want.some_relation c.args.levels ∷ s)) (rw c.in_err-relation.ensures at c.relation.ensures))
+
+pub expr-returns : goal.expr-returns
+expr-returns t c =
+    let n = rw c.in_ok-relation.ensures.0 at c.relation.ensures in
+    rw (c.in_ok-relation.ensures.1, expr_made _ _) (record {
+      spelled = behind c.in_ok-left.ensures (behind n refl);
+      moves = λ s. c.in_ok-left.ensures.moves (want.some_relation c.args.levels ∷ s) ∙ n.moves s;
+      within = omega (arith, c.in_ok-left.ensures.within, n.within);
+      shorter = omega (arith, c.in_ok-left.ensures.shorter, n.shorter);
+    })
+
+pub simple-returns-in_err-first : goal.simple-returns-in_err-first
+simple-returns-in_err-first t c =
+    exits _ _ c.from_residual.result c.in_err-first.field-0.0 c.from_residual.ensures.1
+    (via (term_parts c.args.levels) (simple_parts c.args.levels) _ c.args.given.now _ (λ s. want.addends c.args.levels ∷ s) (λ s. c.sign-sign.ensures.moves (term_parts c.args.levels ++ want.addends c.args.levels ∷ s)) c.in_err-first.ensures)
+
+pub simple-returns-in_err-terms : goal.simple-returns-in_err-terms
+simple-returns-in_err-terms t c =
+    exits _ _ c.from_residual-in_err-terms.result c.in_err-terms.field-0.0 c.from_residual-in_err-terms.ensures.1
+    (via (want.addends c.args.levels ∷ []) (simple_parts c.args.levels) _ c.args.given.now _ (λ s. s) (λ s. c.sign-sign.ensures.moves (term_parts c.args.levels ++ want.addends c.args.levels ∷ s) ∙ c.in_ok-first.ensures.moves (want.addends c.args.levels ∷ s)) (rw c.in_err-terms.ensures at c.addends.ensures))
+
+pub simple-returns : goal.simple-returns
+simple-returns t c =
+    let n = rw c.in_ok-terms.ensures.0 at c.addends.ensures in
+    rw (c.in_ok-terms.ensures.1, simple_made _ _ _) (record {
+      spelled = behind c.sign-sign.ensures (behind c.in_ok-first.ensures (behind n refl));
+      moves = λ s. c.sign-sign.ensures.moves (term_parts c.args.levels ++ want.addends c.args.levels ∷ s) ∙ c.in_ok-first.ensures.moves (want.addends c.args.levels ∷ s) ∙ n.moves s;
+      within = omega (arith, c.sign-sign.ensures.within, c.in_ok-first.ensures.within, n.within);
+      shorter = omega (arith, c.sign-sign.ensures.shorter, c.in_ok-first.ensures.shorter, n.shorter);
+    })
+
+pub term-returns-in_err-first : goal.term-returns-in_err-first
+term-returns-in_err-first t c =
+    exits _ _ c.from_residual.result c.in_err-first.field-0.0 c.from_residual.ensures.1
+    (via (want.factor c.args.levels ∷ []) (term_parts c.args.levels) _ c.args.given.now _ (λ s. want.multipliers c.args.levels ∷ s) (λ s. refl) c.in_err-first.ensures)
+
+pub term-returns-in_err-factors : goal.term-returns-in_err-factors
+term-returns-in_err-factors t c =
+    exits _ _ c.from_residual-in_err-factors.result c.in_err-factors.field-0.0 c.from_residual-in_err-factors.ensures.1
+    (via (want.multipliers c.args.levels ∷ []) (term_parts c.args.levels) _ c.args.given.now _ (λ s. s) (λ s. c.in_ok-first.ensures.moves (want.multipliers c.args.levels ∷ s)) (rw c.in_err-factors.ensures at c.multipliers.ensures))
+
+pub term-returns : goal.term-returns
+term-returns t c =
+    let n = rw c.in_ok-factors.ensures.0 at c.multipliers.ensures in
+    rw (c.in_ok-factors.ensures.1, term_made _ _) (record {
+      spelled = behind c.in_ok-first.ensures (behind n refl);
+      moves = λ s. c.in_ok-first.ensures.moves (want.multipliers c.args.levels ∷ s) ∙ n.moves s;
+      within = omega (arith, c.in_ok-first.ensures.within, n.within);
+      shorter = omega (arith, c.in_ok-first.ensures.shorter, n.shorter);
+    })
+
+pub elements-returns-in_err-first : goal.elements-returns-in_err-first
+elements-returns-in_err-first t c =
+    exits _ _ c.from_residual.result c.in_err-first.field-0.0 c.from_residual.ensures.1
+    (via (element_parts c.args.levels) (element_parts c.args.levels ++ want.elements c.args.levels ∷ []) _ c.args.given.now _ (λ s. want.elements c.args.levels ∷ s) (λ s. refl) c.in_err-first.ensures)
+
+pub elements-returns-in_err-next : goal.elements-returns-in_err-next
+elements-returns-in_err-next t c =
+    exits _ _ c.from_residual-in_err-next.result c.in_err-next.field-0.0 c.from_residual-in_err-next.ensures.1
+    (via (want.elements c.args.levels ∷ []) (element_parts c.args.levels ++ want.elements c.args.levels ∷ []) _ c.args.given.now _ (λ s. s) (λ s. c.in_ok-first.ensures.moves (want.elements c.args.levels ∷ s)) (rw c.in_err-next.ensures at c.more_elements.ensures))
+
+pub elements-returns : goal.elements-returns
+elements-returns t c =
+    let n = rw c.in_ok-next.ensures.0 at c.more_elements.ensures in
+    rw (c.in_ok-next.ensures.1, elements_made _ _) (record {
+      spelled = behind c.in_ok-first.ensures (behind n refl);
+      moves = λ s. c.in_ok-first.ensures.moves (want.elements c.args.levels ∷ s) ∙ n.moves s;
+      within = omega (arith, c.in_ok-first.ensures.within, n.within);
+      shorter = omega (arith, c.in_ok-first.ensures.shorter, n.shorter);
+    })
+
+pub element-returns-in_err-first : goal.element-returns-in_err-first
+element-returns-in_err-first t c =
+    exits _ _ c.from_residual.result c.in_err-first.field-0.0 c.from_residual.ensures.1
+    (via (expr_parts c.args.levels) (element_parts c.args.levels) _ c.args.given.now _ (λ s. want.some_upper c.args.levels ∷ s) (λ s. refl) c.in_err-first.ensures)
+
+pub element-returns-in_err-upper : goal.element-returns-in_err-upper
+element-returns-in_err-upper t c =
+    exits _ _ c.from_residual-in_err-upper.result c.in_err-upper.field-0.0 c.from_residual-in_err-upper.ensures.1
+    (via (want.some_upper c.args.levels ∷ []) (element_parts c.args.levels) _ c.args.given.now _ (λ s. s) (λ s. c.in_ok-first.ensures.moves (want.some_upper c.args.levels ∷ s)) (rw c.in_err-upper.ensures at c.upper.ensures))
+
+pub element-returns : goal.element-returns
+element-returns t c =
+    let n = rw c.in_ok-upper.ensures.0 at c.upper.ensures in
+    rw (c.in_ok-upper.ensures.1, element_made _ _) (record {
+      spelled = behind c.in_ok-first.ensures (behind n refl);
+      moves = λ s. c.in_ok-first.ensures.moves (want.some_upper c.args.levels ∷ s) ∙ n.moves s;
+      within = omega (arith, c.in_ok-first.ensures.within, n.within);
+      shorter = omega (arith, c.in_ok-first.ensures.shorter, n.shorter);
+    })
+
+pub exprs-returns-in_err-first : goal.exprs-returns-in_err-first
+exprs-returns-in_err-first t c =
+    exits _ _ c.from_residual.result c.in_err-first.field-0.0 c.from_residual.ensures.1
+    (via (expr_parts c.args.levels) (exprs_parts c.args.levels) _ c.args.given.now _ (λ s. want.exprs c.args.levels ∷ s) (λ s. refl) c.in_err-first.ensures)
+
+pub exprs-returns-in_err-next : goal.exprs-returns-in_err-next
+exprs-returns-in_err-next t c =
+    exits _ _ c.from_residual-in_err-next.result c.in_err-next.field-0.0 c.from_residual-in_err-next.ensures.1
+    (via (want.exprs c.args.levels ∷ []) (exprs_parts c.args.levels) _ c.args.given.now _ (λ s. s) (λ s. c.in_ok-first.ensures.moves (want.exprs c.args.levels ∷ s)) (rw c.in_err-next.ensures at c.more_exprs.ensures))
+
+pub exprs-returns : goal.exprs-returns
+exprs-returns t c =
+    let n = rw c.in_ok-next.ensures.0 at c.more_exprs.ensures in
+    rw (c.in_ok-next.ensures.1, exprs_made _ _) (record {
+      spelled = behind c.in_ok-first.ensures (behind n refl);
+      moves = λ s. c.in_ok-first.ensures.moves (want.exprs c.args.levels ∷ s) ∙ n.moves s;
+      within = omega (arith, c.in_ok-first.ensures.within, n.within);
+      shorter = omega (arith, c.in_ok-first.ensures.shorter, n.shorter);
+    })
 
 pub relation-returns-in_default : goal.relation-returns-in_default
 relation-returns-in_default t c =
@@ -32,42 +152,6 @@ relation-returns t c =
       moves = λ s. entered_relator c.in-Some.operator c.in-Some.span c.args.levels s c.in-Some.ensures.some ∙ c.in_ok-right.ensures.moves s;
       within = omega (arith, c.in_ok-right.ensures.within);
       shorter = omega (arith, fewer c.in-Some.ensures.some, c.in_ok-right.ensures.shorter);
-    })
-
-pub simple-returns : goal.simple-returns
-simple-returns t c =
-    rw (simple_made _ _ _) (record {
-      spelled = behind c.sign-sign.ensures (behind c.in_ok-first.ensures (behind c.in_ok-terms.ensures refl));
-      moves = λ s. c.sign-sign.ensures.moves (term_parts c.args.levels ++ (want.addends c.args.levels ∷ s)) ∙ c.in_ok-first.ensures.moves (want.addends c.args.levels ∷ s) ∙ c.in_ok-terms.ensures.moves s;
-      within = omega (arith, c.sign-sign.ensures.within, c.in_ok-first.ensures.within, c.in_ok-terms.ensures.within);
-      shorter = omega (arith, c.sign-sign.ensures.shorter, c.in_ok-first.ensures.shorter, c.in_ok-terms.ensures.shorter);
-    })
-
-pub term-returns : goal.term-returns
-term-returns t c =
-    rw (term_made _ _) (record {
-      spelled = behind c.in_ok-first.ensures (behind c.in_ok-factors.ensures refl);
-      moves = λ s. c.in_ok-first.ensures.moves (want.multipliers c.args.levels ∷ s) ∙ c.in_ok-factors.ensures.moves s;
-      within = omega (arith, c.in_ok-first.ensures.within, c.in_ok-factors.ensures.within);
-      shorter = omega (arith, c.in_ok-first.ensures.shorter, c.in_ok-factors.ensures.shorter);
-    })
-
-pub elements-returns : goal.elements-returns
-elements-returns t c =
-    rw (elements_made _ _) (record {
-      spelled = behind c.in_ok-first.ensures (behind c.in_ok-next.ensures refl);
-      moves = λ s. c.in_ok-first.ensures.moves (want.elements c.args.levels ∷ s) ∙ c.in_ok-next.ensures.moves s;
-      within = omega (arith, c.in_ok-first.ensures.within, c.in_ok-next.ensures.within);
-      shorter = omega (arith, c.in_ok-first.ensures.shorter, c.in_ok-next.ensures.shorter);
-    })
-
-pub exprs-returns : goal.exprs-returns
-exprs-returns t c =
-    rw (exprs_made _ _) (record {
-      spelled = behind c.in_ok-first.ensures (behind c.in_ok-next.ensures refl);
-      moves = λ s. c.in_ok-first.ensures.moves (want.exprs c.args.levels ∷ s) ∙ c.in_ok-next.ensures.moves s;
-      within = omega (arith, c.in_ok-first.ensures.within, c.in_ok-next.ensures.within);
-      shorter = omega (arith, c.in_ok-first.ensures.shorter, c.in_ok-next.ensures.shorter);
     })
 
 pub addends-returns-in_err-term : goal.addends-returns-in_err-term
@@ -174,11 +258,11 @@ group-returns-in_err-closing t c =
 
 pub group-returns : goal.group-returns
 group-returns t c =
-    rw c.in_ok-boxed.ensures.ok (record {
-      spelled = onto refl (behind c.in_ok-inner.ensures (onto c.in_ok-closing.ensures refl));
-      moves = λ s. entered (want.factor (suc c.args.levels)) (expr_parts c.args.levels ++ (want.symbol symbols.CloseParen ∷ [])) s _ _ _ refl refl ∙ c.in_ok-inner.ensures.moves (want.symbol symbols.CloseParen ∷ s) ∙ after_symbol symbols.CloseParen s c.in_ok-closing.ensures;
+    rw c.in_ok-closing.ensures.1 (record {
+      spelled = onto refl (behind c.in_ok-inner.ensures (onto c.in_ok-closing.ensures.0 refl));
+      moves = λ s. entered (want.factor (suc c.args.levels)) (expr_parts c.args.levels ++ (want.symbol symbols.CloseParen ∷ [])) s _ _ _ refl refl ∙ c.in_ok-inner.ensures.moves (want.symbol symbols.CloseParen ∷ s) ∙ after_symbol symbols.CloseParen s c.in_ok-closing.ensures.0;
       within = omega (arith, c.in_ok-inner.ensures.within);
-      shorter = omega (arith, c.in_ok-inner.ensures.shorter, fewer c.in_ok-closing.ensures);
+      shorter = omega (arith, c.in_ok-inner.ensures.shorter, fewer c.in_ok-closing.ensures.0);
     })
 
 pub negation-returns-in_err-negated : goal.negation-returns-in_err-negated
@@ -216,11 +300,11 @@ set-returns-in_err-closing t c =
 
 pub set-returns : goal.set-returns
 set-returns t c =
-    rw (set_made _ _ _, c.in_ok-boxed.ensures.ok) (record {
-      spelled = onto refl (behind c.in_ok-elements.ensures (onto c.in_ok-closing.ensures refl));
-      moves = λ s. entered (want.factor (suc c.args.levels)) (want.rest_of_set c.args.levels ∷ []) s _ _ _ refl refl ∙ expand_set c.args.levels s c.args.given.now c.in_default.ensures.none ∙ c.in_ok-elements.ensures.moves (want.symbol symbols.CloseBrace ∷ s) ∙ after_symbol symbols.CloseBrace s c.in_ok-closing.ensures;
+    rw (set_made _ _ _, c.in_ok-closing.ensures.1) (record {
+      spelled = onto refl (behind c.in_ok-elements.ensures (onto c.in_ok-closing.ensures.0 refl));
+      moves = λ s. entered (want.factor (suc c.args.levels)) (want.rest_of_set c.args.levels ∷ []) s _ _ _ refl refl ∙ expand_set c.args.levels s c.args.given.now c.in_default.ensures.none ∙ c.in_ok-elements.ensures.moves (want.symbol symbols.CloseBrace ∷ s) ∙ after_symbol symbols.CloseBrace s c.in_ok-closing.ensures.0;
       within = omega (arith, c.in_ok-elements.ensures.within);
-      shorter = omega (arith, c.in_ok-elements.ensures.shorter, fewer c.in_ok-closing.ensures);
+      shorter = omega (arith, c.in_ok-elements.ensures.shorter, fewer c.in_ok-closing.ensures.0);
     })
 
 pub index-returns-in_err-indices : goal.index-returns-in_err-indices
@@ -235,14 +319,14 @@ index-returns-in_err-closing t c =
 
 pub index-returns : goal.index-returns
 index-returns t c =
-    rw c.in_ok-boxed.ensures.ok (
+    rw c.in_ok-closing.ensures.1 (
       record {
-        spelled = onto refl (behind c.in_ok-indices.ensures (onto c.in_ok-closing.ensures refl));
-        moves = λ s. entered (want.selectors (suc c.args.levels)) (exprs_parts c.args.levels ++ (want.symbol symbols.CloseBracket ∷ (want.selectors (suc c.args.levels) ∷ []))) s _ _ _ refl refl ∙ c.in_ok-indices.ensures.moves (want.symbol symbols.CloseBracket ∷ (want.selectors (suc c.args.levels) ∷ s)) ∙ after_symbol symbols.CloseBracket (want.selectors (suc c.args.levels) ∷ s) c.in_ok-closing.ensures;
+        spelled = onto refl (behind c.in_ok-indices.ensures (onto c.in_ok-closing.ensures.0 refl));
+        moves = λ s. entered (want.selectors (suc c.args.levels)) (exprs_parts c.args.levels ++ (want.symbol symbols.CloseBracket ∷ (want.selectors (suc c.args.levels) ∷ []))) s _ _ _ refl refl ∙ c.in_ok-indices.ensures.moves (want.symbol symbols.CloseBracket ∷ (want.selectors (suc c.args.levels) ∷ s)) ∙ after_symbol symbols.CloseBracket (want.selectors (suc c.args.levels) ∷ s) c.in_ok-closing.ensures.0;
         within = omega (arith, c.in_ok-indices.ensures.within);
-        shorter = omega (arith, c.in_ok-indices.ensures.shorter, fewer c.in_ok-closing.ensures);
+        shorter = omega (arith, c.in_ok-indices.ensures.shorter, fewer c.in_ok-closing.ensures.0);
       },
-      omega (arith, c.in_ok-indices.ensures.shorter, fewer c.in_ok-closing.ensures),
+      omega (arith, c.in_ok-indices.ensures.shorter, fewer c.in_ok-closing.ensures.0),
     )
 
 pub call-returns-in-Some : goal.call-returns-in-Some
@@ -269,14 +353,14 @@ call-returns-in_err-closing t c =
 
 pub call-returns : goal.call-returns
 call-returns t c =
-    rw (call_held _ _ _, c.in_ok-boxed.ensures.ok) (
+    rw (call_held _ _ _, c.in_ok-closing.ensures.1) (
       record {
-        spelled = onto refl (behind c.in_ok-arguments.ensures (onto c.in_ok-closing.ensures refl));
-        moves = λ s. entered (want.selectors (suc c.args.levels)) (want.rest_of_call c.args.levels ∷ (want.selectors (suc c.args.levels) ∷ [])) s _ _ _ refl refl ∙ expand_call c.args.levels (want.selectors (suc c.args.levels) ∷ s) c.args.given.now c.in_default.ensures.none ∙ c.in_ok-arguments.ensures.moves (want.symbol symbols.CloseParen ∷ (want.selectors (suc c.args.levels) ∷ s)) ∙ after_symbol symbols.CloseParen (want.selectors (suc c.args.levels) ∷ s) c.in_ok-closing.ensures;
+        spelled = onto refl (behind c.in_ok-arguments.ensures (onto c.in_ok-closing.ensures.0 refl));
+        moves = λ s. entered (want.selectors (suc c.args.levels)) (want.rest_of_call c.args.levels ∷ (want.selectors (suc c.args.levels) ∷ [])) s _ _ _ refl refl ∙ expand_call c.args.levels (want.selectors (suc c.args.levels) ∷ s) c.args.given.now c.in_default.ensures.none ∙ c.in_ok-arguments.ensures.moves (want.symbol symbols.CloseParen ∷ (want.selectors (suc c.args.levels) ∷ s)) ∙ after_symbol symbols.CloseParen (want.selectors (suc c.args.levels) ∷ s) c.in_ok-closing.ensures.0;
         within = omega (arith, c.in_ok-arguments.ensures.within);
-        shorter = omega (arith, c.in_ok-arguments.ensures.shorter, fewer c.in_ok-closing.ensures);
+        shorter = omega (arith, c.in_ok-arguments.ensures.shorter, fewer c.in_ok-closing.ensures.0);
       },
-      omega (arith, c.in_ok-arguments.ensures.shorter, fewer c.in_ok-closing.ensures),
+      omega (arith, c.in_ok-arguments.ensures.shorter, fewer c.in_ok-closing.ensures.0),
     )
 
 pub upper-returns-in_default : goal.upper-returns-in_default
@@ -375,3 +459,108 @@ selectors-returns t c =
       within = c.loop-items.invariant.within;
       shorter = c.loop-items.invariant.shorter;
     }
+
+pub expr-simple-requires : goal.expr-simple-requires
+expr-simple-requires t c = omega arith
+
+pub expr-relation-requires : goal.expr-relation-requires
+expr-relation-requires t c = omega (arith, c.in_ok-left.ensures.shorter)
+
+pub relation-simple-requires : goal.relation-simple-requires
+relation-simple-requires t c = omega (arith, fewer c.in-Some.ensures.some)
+
+pub simple-term-requires : goal.simple-term-requires
+simple-term-requires t c = omega (arith, c.sign-sign.ensures.shorter)
+
+pub simple-addends-requires : goal.simple-addends-requires
+simple-addends-requires t c = omega (arith, c.sign-sign.ensures.shorter, c.in_ok-first.ensures.shorter)
+
+pub addends-term-requires : goal.addends-term-requires
+addends-term-requires t c = omega (arith, c.loop-operator.invariant.shorter, fewer c.in-Some.ensures.some)
+
+pub term-factor-requires : goal.term-factor-requires
+term-factor-requires t c = omega arith
+
+pub term-multipliers-requires : goal.term-multipliers-requires
+term-multipliers-requires t c = omega (arith, c.in_ok-first.ensures.shorter)
+
+pub multipliers-factor-requires : goal.multipliers-factor-requires
+multipliers-factor-requires t c = omega (arith, c.loop-operator.invariant.shorter, fewer c.in-Some.ensures.some)
+
+pub factor-selectors-requires : goal.factor-selectors-requires
+factor-selectors-requires t c = let h = rw c.in-Some-2.is at c.in_ok-name.ensures in omega (arith, fewer h)
+
+pub factor-group-requires : goal.factor-group-requires
+factor-group-requires t c = omega (arith, fewer c.in-Some-symbol.ensures.some)
+
+pub factor-negation-requires : goal.factor-negation-requires
+factor-negation-requires t c = omega (arith, fewer c.in-Some-symbol-2.ensures.some)
+
+pub factor-set-requires : goal.factor-set-requires
+factor-set-requires t c = omega (arith, fewer c.in-Some-symbol-3.ensures.some)
+
+pub group-expr-requires : goal.group-expr-requires
+group-expr-requires t c = omega arith
+
+pub negation-factor-requires : goal.negation-factor-requires
+negation-factor-requires t c = omega arith
+
+pub set-elements-requires : goal.set-elements-requires
+set-elements-requires t c = omega arith
+
+pub elements-element-requires : goal.elements-element-requires
+elements-element-requires t c = omega arith
+
+pub elements-more_elements-requires : goal.elements-more_elements-requires
+elements-more_elements-requires t c = omega (arith, c.in_ok-first.ensures.shorter)
+
+pub more_elements-element-requires : goal.more_elements-element-requires
+more_elements-element-requires t c = omega (arith, c.loop-comma.invariant.shorter, fewer c.in-Some.ensures.some)
+
+pub element-expr-requires : goal.element-expr-requires
+element-expr-requires t c = omega arith
+
+pub element-upper-requires : goal.element-upper-requires
+element-upper-requires t c = omega (arith, c.in_ok-first.ensures.shorter)
+
+pub upper-expr-requires : goal.upper-expr-requires
+upper-expr-requires t c = omega (arith, fewer c.in-Some.ensures.some)
+
+pub selectors-selector-requires : goal.selectors-selector-requires
+selectors-selector-requires t c = omega (arith, c.loop-items.invariant.shorter)
+
+pub selector-index-requires : goal.selector-index-requires
+selector-index-requires t c = omega (arith, fewer c.in-Some-symbol.ensures.some)
+
+pub selector-call-requires : goal.selector-call-requires
+selector-call-requires t c = omega (arith, fewer c.in-Some-symbol-2.ensures.some)
+
+pub index-exprs-requires : goal.index-exprs-requires
+index-exprs-requires t c = omega arith
+
+pub call-exprs-requires : goal.call-exprs-requires
+call-exprs-requires t c = omega arith
+
+pub exprs-expr-requires : goal.exprs-expr-requires
+exprs-expr-requires t c = omega arith
+
+pub exprs-more_exprs-requires : goal.exprs-more_exprs-requires
+exprs-more_exprs-requires t c = omega (arith, c.in_ok-first.ensures.shorter)
+
+pub more_exprs-expr-requires : goal.more_exprs-expr-requires
+more_exprs-expr-requires t c = omega (arith, c.loop-comma.invariant.shorter, fewer c.in-Some.ensures.some)
+
+pub addends-loop-operator-smaller : goal.addends-loop-operator-smaller
+addends-loop-operator-smaller t c = omega (arith, fewer c.in-Some.ensures.some, c.in_ok-term.ensures.shorter)
+
+pub multipliers-loop-operator-smaller : goal.multipliers-loop-operator-smaller
+multipliers-loop-operator-smaller t c = omega (arith, fewer c.in-Some.ensures.some, c.in_ok-factor.ensures.shorter)
+
+pub more_elements-loop-comma-smaller : goal.more_elements-loop-comma-smaller
+more_elements-loop-comma-smaller t c = omega (arith, fewer c.in-Some.ensures.some, c.in_ok-element.ensures.shorter)
+
+pub more_exprs-loop-comma-smaller : goal.more_exprs-loop-comma-smaller
+more_exprs-loop-comma-smaller t c = omega (arith, fewer c.in-Some.ensures.some, c.in_ok-expr.ensures.shorter)
+
+pub selectors-loop-items-smaller : goal.selectors-loop-items-smaller
+selectors-loop-items-smaller t c = let h = rw c.in-Some.is at c.in_ok-one.ensures in omega (arith, h.1)

@@ -23,13 +23,14 @@ returns-in_err-found c =
 pub returns-in_err-result_type : goal.returns-in_err-result_type
 returns-in_err-result_type c =
     exits _ _ c.from_residual-in_err-result_type.result c.in_err-result_type.field-0.0 c.from_residual-in_err-result_type.ensures.1
-    (via (want.some_result ∷ []) ((want.some_formals c.args.levels) ∷ []) _ c.args.given.now _ (λ s. s) (λ s. entered (want.some_formals c.args.levels) (want.rest_of_formals c.args.levels ∷ (want.some_result ∷ [])) s _ _ _ c.in-Some.ensures.some refl ∙ c.in_ok-found.ensures.moves (want.some_result ∷ s)) c.in_err-result_type.ensures)
+    (via (want.some_result ∷ []) ((want.some_formals c.args.levels) ∷ []) _ c.args.given.now _ (λ s. s) (λ s. entered (want.some_formals c.args.levels) (want.rest_of_formals c.args.levels ∷ (want.some_result ∷ [])) s _ _ _ c.in-Some.ensures.some refl ∙ c.in_ok-found.ensures.moves (want.some_result ∷ s)) (rw c.in_err-result_type.ensures at c.result_type.ensures))
 
 pub returns : goal.returns
 returns c =
-    record {
-      spelled = onto c.in-Some.ensures.some (behind c.in_ok-found.ensures (behind c.in_ok-result_type.ensures refl));
-      moves = λ s. entered (want.some_formals c.args.levels) (want.rest_of_formals c.args.levels ∷ (want.some_result ∷ [])) s _ _ _ c.in-Some.ensures.some refl ∙ c.in_ok-found.ensures.moves (want.some_result ∷ s) ∙ c.in_ok-result_type.ensures.moves s;
-      within = omega (arith, c.in_ok-found.ensures.within, c.in_ok-result_type.ensures.within);
-      shorter = omega (arith, fewer c.in-Some.ensures.some, c.in_ok-found.ensures.shorter, c.in_ok-result_type.ensures.shorter);
-    }
+    let ok_result_type = rw c.in_ok-result_type.ensures.0 at c.result_type.ensures in
+    rw (c.in_ok-result_type.ensures.1) (record {
+      spelled = onto c.in-Some.ensures.some (behind c.in_ok-found.ensures (behind ok_result_type refl));
+      moves = λ s. entered (want.some_formals c.args.levels) (want.rest_of_formals c.args.levels ∷ (want.some_result ∷ [])) s _ _ _ c.in-Some.ensures.some refl ∙ c.in_ok-found.ensures.moves (want.some_result ∷ s) ∙ ok_result_type.moves s;
+      within = omega (arith, c.in_ok-found.ensures.within, ok_result_type.within);
+      shorter = omega (arith, fewer c.in-Some.ensures.some, c.in_ok-found.ensures.shorter, ok_result_type.shorter);
+    })

@@ -23,18 +23,21 @@ returns-in_err-first c =
 pub returns-in_err-next : goal.returns-in_err-next
 returns-in_err-next c =
     exits _ _ c.from_residual-in_err-next.result c.in_err-next.field-0.0 c.from_residual-in_err-next.ensures.1
-    (via (want.sections c.args.levels ∷ []) ((want.rest_of_formals c.args.levels) ∷ []) _ c.args.given.now _ (λ s. (want.symbol symbols.CloseParen ∷ s)) (λ s. expand_formals c.args.levels s c.args.given.now c.in_default.ensures.none ∙ c.in_ok-first.ensures.moves (want.sections c.args.levels ∷ (want.symbol symbols.CloseParen ∷ s))) c.in_err-next.ensures)
+    (via (want.sections c.args.levels ∷ []) ((want.rest_of_formals c.args.levels) ∷ []) _ c.args.given.now _ (λ s. (want.symbol symbols.CloseParen ∷ s)) (λ s. expand_formals c.args.levels s c.args.given.now c.in_default.ensures.none ∙ c.in_ok-first.ensures.moves (want.sections c.args.levels ∷ (want.symbol symbols.CloseParen ∷ s))) (rw c.in_err-next.ensures at c.more_sections.ensures))
 
 pub returns-in_err-closing : goal.returns-in_err-closing
 returns-in_err-closing c =
+    let ok_next = rw c.in_ok-next.ensures.0 at c.more_sections.ensures in
     exits _ _ c.from_residual-in_err-closing.result c.in_err-closing.field-0.0 c.from_residual-in_err-closing.ensures.1
-    (via (want.symbol symbols.CloseParen ∷ []) ((want.rest_of_formals c.args.levels) ∷ []) _ c.args.given.now _ (λ s. s) (λ s. expand_formals c.args.levels s c.args.given.now c.in_default.ensures.none ∙ c.in_ok-first.ensures.moves (want.sections c.args.levels ∷ (want.symbol symbols.CloseParen ∷ s)) ∙ c.in_ok-next.ensures.moves (want.symbol symbols.CloseParen ∷ s)) c.in_err-closing.ensures)
+    (via (want.symbol symbols.CloseParen ∷ []) ((want.rest_of_formals c.args.levels) ∷ []) _ c.args.given.now _ (λ s. s) (λ s. expand_formals c.args.levels s c.args.given.now c.in_default.ensures.none ∙ c.in_ok-first.ensures.moves (want.sections c.args.levels ∷ (want.symbol symbols.CloseParen ∷ s)) ∙ ok_next.moves (want.symbol symbols.CloseParen ∷ s)) (rw c.in_err-closing.ensures at c.need_symbol.ensures))
 
 pub returns : goal.returns
 returns c =
-    record {
-      spelled = behind c.in_ok-first.ensures (behind c.in_ok-next.ensures (onto c.in_ok-closing.ensures refl));
-      moves = λ s. expand_formals c.args.levels s c.args.given.now c.in_default.ensures.none ∙ c.in_ok-first.ensures.moves (want.sections c.args.levels ∷ (want.symbol symbols.CloseParen ∷ s)) ∙ c.in_ok-next.ensures.moves (want.symbol symbols.CloseParen ∷ s) ∙ after_symbol symbols.CloseParen s c.in_ok-closing.ensures;
-      within = omega (arith, c.in_ok-first.ensures.within, c.in_ok-next.ensures.within);
-      shorter = omega (arith, c.in_ok-first.ensures.shorter, c.in_ok-next.ensures.shorter, fewer c.in_ok-closing.ensures);
-    }
+    let ok_next = rw c.in_ok-next.ensures.0 at c.more_sections.ensures in
+    let ok_closing = rw c.in_ok-closing.ensures.0 at c.need_symbol.ensures in
+    rw (c.in_ok-closing.ensures.1, c.in_ok-next.ensures.1) (record {
+      spelled = behind c.in_ok-first.ensures (behind ok_next (onto ok_closing refl));
+      moves = λ s. expand_formals c.args.levels s c.args.given.now c.in_default.ensures.none ∙ c.in_ok-first.ensures.moves (want.sections c.args.levels ∷ (want.symbol symbols.CloseParen ∷ s)) ∙ ok_next.moves (want.symbol symbols.CloseParen ∷ s) ∙ after_symbol symbols.CloseParen s ok_closing;
+      within = omega (arith, c.in_ok-first.ensures.within, ok_next.within);
+      shorter = omega (arith, c.in_ok-first.ensures.shorter, ok_next.shorter, fewer ok_closing);
+    })

@@ -15,20 +15,24 @@ returns-in_err-found c =
 pub returns-in_err-behind : goal.returns-in_err-behind
 returns-in_err-behind c =
     exits _ _ c.from_residual-in_err-behind.result c.in_err-behind.field-0.0 c.from_residual-in_err-behind.ensures.1
-    (via (locals_parts c.args.levels ++ (want.some_body c.args.levels ∷ (want.some_return c.args.levels ∷ (want.word words.End ∷ (want.ident ∷ []))))) ((want.procedures (suc c.args.levels)) ∷ []) _ (word_token words.Procedure c.args.span ∷ c.args.given.now) _ (λ s. (want.symbol symbols.Semicolon ∷ (want.procedures (suc c.args.levels) ∷ s))) (λ s. entered (want.procedures (suc c.args.levels)) (ident_def_parts ++ (want.some_formals c.args.levels ∷ (want.symbol symbols.Semicolon ∷ (locals_parts c.args.levels ++ (want.some_body c.args.levels ∷ (want.some_return c.args.levels ∷ (want.word words.End ∷ (want.ident ∷ (want.symbol symbols.Semicolon ∷ (want.procedures (suc c.args.levels) ∷ [])))))))))) s _ _ _ refl refl ∙ c.in_ok-found.ensures.moves (locals_parts c.args.levels ++ (want.some_body c.args.levels ∷ (want.some_return c.args.levels ∷ (want.word words.End ∷ (want.ident ∷ (want.symbol symbols.Semicolon ∷ (want.procedures (suc c.args.levels) ∷ s)))))))) c.in_err-behind.ensures)
+    (via (locals_parts c.args.levels ++ (want.some_body c.args.levels ∷ (want.some_return c.args.levels ∷ (want.word words.End ∷ (want.ident ∷ []))))) ((want.procedures (suc c.args.levels)) ∷ []) _ (word_token words.Procedure c.args.span ∷ c.args.given.now) _ (λ s. (want.symbol symbols.Semicolon ∷ (want.procedures (suc c.args.levels) ∷ s))) (λ s. entered (want.procedures (suc c.args.levels)) (ident_def_parts ++ (want.some_formals c.args.levels ∷ (want.symbol symbols.Semicolon ∷ (locals_parts c.args.levels ++ (want.some_body c.args.levels ∷ (want.some_return c.args.levels ∷ (want.word words.End ∷ (want.ident ∷ (want.symbol symbols.Semicolon ∷ (want.procedures (suc c.args.levels) ∷ [])))))))))) s _ _ _ refl refl ∙ c.in_ok-found.ensures.moves (locals_parts c.args.levels ++ (want.some_body c.args.levels ∷ (want.some_return c.args.levels ∷ (want.word words.End ∷ (want.ident ∷ (want.symbol symbols.Semicolon ∷ (want.procedures (suc c.args.levels) ∷ s)))))))) (rw c.in_err-behind.ensures at c.rest_of_procedure.ensures))
 
 pub returns-in_err-separator : goal.returns-in_err-separator
 returns-in_err-separator c =
+    let ok_behind = rw c.in_ok-behind.ensures.0 at c.rest_of_procedure.ensures in
     exits _ _ c.from_residual-in_err-separator.result c.in_err-separator.field-0.0 c.from_residual-in_err-separator.ensures.1
-    (via (want.symbol symbols.Semicolon ∷ []) ((want.procedures (suc c.args.levels)) ∷ []) _ (word_token words.Procedure c.args.span ∷ c.args.given.now) _ (λ s. (want.procedures (suc c.args.levels) ∷ s)) (λ s. entered (want.procedures (suc c.args.levels)) (ident_def_parts ++ (want.some_formals c.args.levels ∷ (want.symbol symbols.Semicolon ∷ (locals_parts c.args.levels ++ (want.some_body c.args.levels ∷ (want.some_return c.args.levels ∷ (want.word words.End ∷ (want.ident ∷ (want.symbol symbols.Semicolon ∷ (want.procedures (suc c.args.levels) ∷ [])))))))))) s _ _ _ refl refl ∙ c.in_ok-found.ensures.moves (locals_parts c.args.levels ++ (want.some_body c.args.levels ∷ (want.some_return c.args.levels ∷ (want.word words.End ∷ (want.ident ∷ (want.symbol symbols.Semicolon ∷ (want.procedures (suc c.args.levels) ∷ s))))))) ∙ c.in_ok-behind.ensures.moves (want.symbol symbols.Semicolon ∷ (want.procedures (suc c.args.levels) ∷ s))) c.in_err-separator.ensures)
+    (via (want.symbol symbols.Semicolon ∷ []) ((want.procedures (suc c.args.levels)) ∷ []) _ (word_token words.Procedure c.args.span ∷ c.args.given.now) _ (λ s. (want.procedures (suc c.args.levels) ∷ s)) (λ s. entered (want.procedures (suc c.args.levels)) (ident_def_parts ++ (want.some_formals c.args.levels ∷ (want.symbol symbols.Semicolon ∷ (locals_parts c.args.levels ++ (want.some_body c.args.levels ∷ (want.some_return c.args.levels ∷ (want.word words.End ∷ (want.ident ∷ (want.symbol symbols.Semicolon ∷ (want.procedures (suc c.args.levels) ∷ [])))))))))) s _ _ _ refl refl ∙ c.in_ok-found.ensures.moves (locals_parts c.args.levels ++ (want.some_body c.args.levels ∷ (want.some_return c.args.levels ∷ (want.word words.End ∷ (want.ident ∷ (want.symbol symbols.Semicolon ∷ (want.procedures (suc c.args.levels) ∷ s))))))) ∙ ok_behind.moves (want.symbol symbols.Semicolon ∷ (want.procedures (suc c.args.levels) ∷ s))) (rw c.in_err-separator.ensures at c.need_symbol.ensures))
 
 pub returns : goal.returns
-returns c = (
-  record {
-    spelled = onto refl (behind c.in_ok-found.ensures (behind c.in_ok-behind.ensures (onto c.in_ok-separator.ensures refl)));
-    moves = λ s. entered (want.procedures (suc c.args.levels)) (ident_def_parts ++ (want.some_formals c.args.levels ∷ (want.symbol symbols.Semicolon ∷ (locals_parts c.args.levels ++ (want.some_body c.args.levels ∷ (want.some_return c.args.levels ∷ (want.word words.End ∷ (want.ident ∷ (want.symbol symbols.Semicolon ∷ (want.procedures (suc c.args.levels) ∷ [])))))))))) s _ _ _ refl refl ∙ c.in_ok-found.ensures.moves (locals_parts c.args.levels ++ (want.some_body c.args.levels ∷ (want.some_return c.args.levels ∷ (want.word words.End ∷ (want.ident ∷ (want.symbol symbols.Semicolon ∷ (want.procedures (suc c.args.levels) ∷ s))))))) ∙ c.in_ok-behind.ensures.moves (want.symbol symbols.Semicolon ∷ (want.procedures (suc c.args.levels) ∷ s)) ∙ after_symbol symbols.Semicolon (want.procedures (suc c.args.levels) ∷ s) c.in_ok-separator.ensures;
-    within = omega (arith, c.in_ok-found.ensures.within, c.in_ok-behind.ensures.within);
-    shorter = omega (arith, c.in_ok-found.ensures.shorter, c.in_ok-behind.ensures.shorter, fewer c.in_ok-separator.ensures);
-  },
-  omega (arith, c.in_ok-found.ensures.shorter, c.in_ok-behind.ensures.shorter, fewer c.in_ok-separator.ensures),
-)
+returns c =
+    let ok_behind = rw c.in_ok-behind.ensures.0 at c.rest_of_procedure.ensures in
+    let ok_separator = rw c.in_ok-separator.ensures.0 at c.need_symbol.ensures in
+    rw (c.in_ok-separator.ensures.1, c.in_ok-behind.ensures.1) (
+      record {
+        spelled = onto refl (behind c.in_ok-found.ensures (behind ok_behind (onto ok_separator refl)));
+        moves = λ s. entered (want.procedures (suc c.args.levels)) (ident_def_parts ++ (want.some_formals c.args.levels ∷ (want.symbol symbols.Semicolon ∷ (locals_parts c.args.levels ++ (want.some_body c.args.levels ∷ (want.some_return c.args.levels ∷ (want.word words.End ∷ (want.ident ∷ (want.symbol symbols.Semicolon ∷ (want.procedures (suc c.args.levels) ∷ [])))))))))) s _ _ _ refl refl ∙ c.in_ok-found.ensures.moves (locals_parts c.args.levels ++ (want.some_body c.args.levels ∷ (want.some_return c.args.levels ∷ (want.word words.End ∷ (want.ident ∷ (want.symbol symbols.Semicolon ∷ (want.procedures (suc c.args.levels) ∷ s))))))) ∙ ok_behind.moves (want.symbol symbols.Semicolon ∷ (want.procedures (suc c.args.levels) ∷ s)) ∙ after_symbol symbols.Semicolon (want.procedures (suc c.args.levels) ∷ s) ok_separator;
+        within = omega (arith, c.in_ok-found.ensures.within, ok_behind.within);
+        shorter = omega (arith, c.in_ok-found.ensures.shorter, ok_behind.shorter, fewer ok_separator);
+      },
+      omega (arith, c.in_ok-found.ensures.shorter, ok_behind.shorter, fewer ok_separator),
+    )

@@ -2,7 +2,7 @@ use Rattle.std.proofs.Common.{suc, length, refl, sym, arith, subst, ◌∷◌, �
 use Rattle.oberon_parse.specs.Machine.{expr_parts, statements_parts, guarded_parts}
 use Rattle.oberon_parse.specs.Tests.{is_word, is_symbol}
 use Rattle.oberon_parse.specs.Reading.{StopsAt}
-use Rattle.oberon_parse.proofs.Descending.{halts, via, after_symbol, after_word, after_ident, entered, fewer, exits, onto, behind, after_some}
+use Rattle.oberon_parse.proofs.Descending.{halts, via, after_word, entered, fewer, exits, onto, behind, after_some}
 use Rattle.oberon_parse.proofs.Steps.{skip, skip_arm, skip_statement}
 use Rattle.oberon_parse.proofs.Joins.{no_level}
 use Rattle.oberon_parse.proofs.StatementJoins.{first_then, more_statements_push, more_statements_depth, more_arms_push, more_arms_depth, elsifs_push, elsifs_depth}
@@ -12,20 +12,6 @@ use Rattle.oberon_parse.specs.Expected as want
 use Rattle.oberon_scan.specs.declared.token.Symbol.TheVariants as symbols
 use Rattle.oberon_scan.specs.declared.token.Word.TheVariants as words
 use Rattle.oberon_parse.proofs.statement.+statement.Goals as goal
-
-pub statements-returns-in_err-next : goal.statements-returns-in_err-next
-statements-returns-in_err-next t c =
-    exits _ _ c.from_residual-in_err-next.result c.in_err-next.field-0.0 c.from_residual-in_err-next.ensures.1
-    (via (want.statements c.args.levels ∷ []) (statements_parts c.args.levels) _ c.args.given.now _ (λ s. s) (λ s. c.in_ok-first.ensures.moves (want.statements c.args.levels ∷ s)) c.in_err-next.ensures)
-
-pub statements-returns : goal.statements-returns
-statements-returns t c =
-    rw (statements_made _ _) (record {
-      spelled = behind c.in_ok-first.ensures (behind c.in_ok-next.ensures refl);
-      moves = λ s. c.in_ok-first.ensures.moves (want.statements c.args.levels ∷ s) ∙ c.in_ok-next.ensures.moves s;
-      within = omega (arith, c.in_ok-first.ensures.within, c.in_ok-next.ensures.within);
-      shorter = omega (arith, c.in_ok-first.ensures.shorter, c.in_ok-next.ensures.shorter);
-    })
 
 pub more_statements-returns-in_err-statement : goal.more_statements-returns-in_err-statement
 more_statements-returns-in_err-statement t c =
@@ -90,25 +76,6 @@ statement-returns t c =
       shorter = omega arith;
     }
 
-pub guarded-returns-in_err-span : goal.guarded-returns-in_err-span
-guarded-returns-in_err-span t c =
-    exits _ _ c.from_residual-in_err-span.result c.in_err-span.field-0.0 c.from_residual-in_err-span.ensures.1
-    (via (want.word c.args.joint ∷ []) (guarded_parts c.args.joint c.args.levels) _ c.args.given.now _ (λ s. (statements_parts c.args.levels ++ s)) (λ s. c.in_ok-condition.ensures.moves (want.word c.args.joint ∷ (statements_parts c.args.levels ++ s))) c.in_err-span.ensures)
-
-pub guarded-returns-in_err-body : goal.guarded-returns-in_err-body
-guarded-returns-in_err-body t c =
-    exits _ _ c.from_residual-in_err-body.result c.in_err-body.field-0.0 c.from_residual-in_err-body.ensures.1
-    (via (statements_parts c.args.levels ++ []) (guarded_parts c.args.joint c.args.levels) _ c.args.given.now _ (λ s. s) (λ s. c.in_ok-condition.ensures.moves (want.word c.args.joint ∷ (statements_parts c.args.levels ++ s)) ∙ after_word c.args.joint (statements_parts c.args.levels ++ s) c.in_ok-span.ensures) c.in_err-body.ensures)
-
-pub guarded-returns : goal.guarded-returns
-guarded-returns t c =
-    record {
-      spelled = behind c.in_ok-condition.ensures (onto c.in_ok-span.ensures (behind c.in_ok-body.ensures refl));
-      moves = λ s. c.in_ok-condition.ensures.moves (want.word c.args.joint ∷ (statements_parts c.args.levels ++ s)) ∙ after_word c.args.joint (statements_parts c.args.levels ++ s) c.in_ok-span.ensures ∙ c.in_ok-body.ensures.moves s;
-      within = omega (arith, c.in_ok-condition.ensures.within, c.in_ok-body.ensures.within);
-      shorter = omega (arith, c.in_ok-condition.ensures.shorter, fewer c.in_ok-span.ensures, c.in_ok-body.ensures.shorter);
-    }
-
 pub elsifs-returns-in_err-parts : goal.elsifs-returns-in_err-parts
 elsifs-returns-in_err-parts t c =
     exits _ _ c.from_residual.result c.in_err-parts.field-0.0 c.from_residual.ensures.1
@@ -155,117 +122,6 @@ otherwise-returns t c =
       shorter = omega (arith, fewer c.in-Some.ensures.some, c.in_ok-body.ensures.shorter);
     })
 
-pub conditional-returns-in_err-parts : goal.conditional-returns-in_err-parts
-conditional-returns-in_err-parts t c =
-    exits _ _ c.from_residual.result c.in_err-parts.field-0.0 c.from_residual.ensures.1
-    (via (guarded_parts words.Then c.args.levels ++ []) ((want.statement (suc c.args.levels)) ∷ []) _ (word_token words.If c.args.span ∷ c.args.given.now) _ (λ s. (want.elsifs words.Then c.args.levels ∷ (want.some_else c.args.levels ∷ (want.word words.End ∷ s)))) (λ s. entered (want.statement (suc c.args.levels)) (guarded_parts words.Then c.args.levels ++ (want.elsifs words.Then c.args.levels ∷ (want.some_else c.args.levels ∷ (want.word words.End ∷ [])))) s _ _ _ refl refl) c.in_err-parts.ensures)
-
-pub conditional-returns-in_err-next : goal.conditional-returns-in_err-next
-conditional-returns-in_err-next t c =
-    exits _ _ c.from_residual-in_err-next.result c.in_err-next.field-0.0 c.from_residual-in_err-next.ensures.1
-    (via (want.elsifs words.Then c.args.levels ∷ []) ((want.statement (suc c.args.levels)) ∷ []) _ (word_token words.If c.args.span ∷ c.args.given.now) _ (λ s. (want.some_else c.args.levels ∷ (want.word words.End ∷ s))) (λ s. entered (want.statement (suc c.args.levels)) (guarded_parts words.Then c.args.levels ++ (want.elsifs words.Then c.args.levels ∷ (want.some_else c.args.levels ∷ (want.word words.End ∷ [])))) s _ _ _ refl refl ∙ c.in_ok-parts.ensures.moves (want.elsifs words.Then c.args.levels ∷ (want.some_else c.args.levels ∷ (want.word words.End ∷ s)))) c.in_err-next.ensures)
-
-pub conditional-returns-in_err-other : goal.conditional-returns-in_err-other
-conditional-returns-in_err-other t c =
-    exits _ _ c.from_residual-in_err-other.result c.in_err-other.field-0.0 c.from_residual-in_err-other.ensures.1
-    (via (want.some_else c.args.levels ∷ []) ((want.statement (suc c.args.levels)) ∷ []) _ (word_token words.If c.args.span ∷ c.args.given.now) _ (λ s. (want.word words.End ∷ s)) (λ s. entered (want.statement (suc c.args.levels)) (guarded_parts words.Then c.args.levels ++ (want.elsifs words.Then c.args.levels ∷ (want.some_else c.args.levels ∷ (want.word words.End ∷ [])))) s _ _ _ refl refl ∙ c.in_ok-parts.ensures.moves (want.elsifs words.Then c.args.levels ∷ (want.some_else c.args.levels ∷ (want.word words.End ∷ s))) ∙ c.in_ok-next.ensures.moves (want.some_else c.args.levels ∷ (want.word words.End ∷ s))) c.in_err-other.ensures)
-
-pub conditional-returns-in_err-end : goal.conditional-returns-in_err-end
-conditional-returns-in_err-end t c =
-    exits _ _ c.from_residual-in_err-end.result c.in_err-end.field-0.0 c.from_residual-in_err-end.ensures.1
-    (via (want.word words.End ∷ []) ((want.statement (suc c.args.levels)) ∷ []) _ (word_token words.If c.args.span ∷ c.args.given.now) _ (λ s. s) (λ s. entered (want.statement (suc c.args.levels)) (guarded_parts words.Then c.args.levels ++ (want.elsifs words.Then c.args.levels ∷ (want.some_else c.args.levels ∷ (want.word words.End ∷ [])))) s _ _ _ refl refl ∙ c.in_ok-parts.ensures.moves (want.elsifs words.Then c.args.levels ∷ (want.some_else c.args.levels ∷ (want.word words.End ∷ s))) ∙ c.in_ok-next.ensures.moves (want.some_else c.args.levels ∷ (want.word words.End ∷ s)) ∙ c.in_ok-other.ensures.moves (want.word words.End ∷ s)) c.in_err-end.ensures)
-
-pub conditional-returns : goal.conditional-returns
-conditional-returns t c =
-    rw (c.in_ok-boxed.ensures.ok, if_made _ _ _ _, guarded_made _ _ _ _) (record {
-      spelled = onto refl (behind c.in_ok-parts.ensures (behind c.in_ok-next.ensures (behind c.in_ok-other.ensures (onto c.in_ok-end.ensures refl))));
-      moves = λ s. entered (want.statement (suc c.args.levels)) (guarded_parts words.Then c.args.levels ++ (want.elsifs words.Then c.args.levels ∷ (want.some_else c.args.levels ∷ (want.word words.End ∷ [])))) s _ _ _ refl refl ∙ c.in_ok-parts.ensures.moves (want.elsifs words.Then c.args.levels ∷ (want.some_else c.args.levels ∷ (want.word words.End ∷ s))) ∙ c.in_ok-next.ensures.moves (want.some_else c.args.levels ∷ (want.word words.End ∷ s)) ∙ c.in_ok-other.ensures.moves (want.word words.End ∷ s) ∙ after_word words.End s c.in_ok-end.ensures;
-      within = omega (arith, c.in_ok-parts.ensures.within, c.in_ok-next.ensures.within, c.in_ok-other.ensures.within);
-      shorter = omega (arith, c.in_ok-parts.ensures.shorter, c.in_ok-next.ensures.shorter, c.in_ok-other.ensures.shorter, fewer c.in_ok-end.ensures);
-    })
-
-pub choice-returns-in_err-value : goal.choice-returns-in_err-value
-choice-returns-in_err-value t c =
-    exits _ _ c.from_residual.result c.in_err-value.field-0.0 c.from_residual.ensures.1
-    (via (expr_parts c.args.levels ++ []) ((want.statement (suc c.args.levels)) ∷ []) _ (word_token words.Case c.args.span ∷ c.args.given.now) _ (λ s. (want.word words.Of ∷ (want.arm c.args.levels ∷ (want.arms c.args.levels ∷ (want.word words.End ∷ s))))) (λ s. entered (want.statement (suc c.args.levels)) (expr_parts c.args.levels ++ (want.word words.Of ∷ (want.arm c.args.levels ∷ (want.arms c.args.levels ∷ (want.word words.End ∷ []))))) s _ _ _ refl refl) c.in_err-value.ensures)
-
-pub choice-returns-in_err-of : goal.choice-returns-in_err-of
-choice-returns-in_err-of t c =
-    exits _ _ c.from_residual-in_err-of.result c.in_err-of.field-0.0 c.from_residual-in_err-of.ensures.1
-    (via (want.word words.Of ∷ []) ((want.statement (suc c.args.levels)) ∷ []) _ (word_token words.Case c.args.span ∷ c.args.given.now) _ (λ s. (want.arm c.args.levels ∷ (want.arms c.args.levels ∷ (want.word words.End ∷ s)))) (λ s. entered (want.statement (suc c.args.levels)) (expr_parts c.args.levels ++ (want.word words.Of ∷ (want.arm c.args.levels ∷ (want.arms c.args.levels ∷ (want.word words.End ∷ []))))) s _ _ _ refl refl ∙ c.in_ok-value.ensures.moves (want.word words.Of ∷ (want.arm c.args.levels ∷ (want.arms c.args.levels ∷ (want.word words.End ∷ s))))) c.in_err-of.ensures)
-
-pub choice-returns-in_err-first : goal.choice-returns-in_err-first
-choice-returns-in_err-first t c =
-    exits _ _ c.from_residual-in_err-first.result c.in_err-first.field-0.0 c.from_residual-in_err-first.ensures.1
-    (via (want.arm c.args.levels ∷ []) ((want.statement (suc c.args.levels)) ∷ []) _ (word_token words.Case c.args.span ∷ c.args.given.now) _ (λ s. (want.arms c.args.levels ∷ (want.word words.End ∷ s))) (λ s. entered (want.statement (suc c.args.levels)) (expr_parts c.args.levels ++ (want.word words.Of ∷ (want.arm c.args.levels ∷ (want.arms c.args.levels ∷ (want.word words.End ∷ []))))) s _ _ _ refl refl ∙ c.in_ok-value.ensures.moves (want.word words.Of ∷ (want.arm c.args.levels ∷ (want.arms c.args.levels ∷ (want.word words.End ∷ s)))) ∙ after_word words.Of (want.arm c.args.levels ∷ (want.arms c.args.levels ∷ (want.word words.End ∷ s))) c.in_ok-of.ensures) c.in_err-first.ensures)
-
-pub choice-returns-in_err-next : goal.choice-returns-in_err-next
-choice-returns-in_err-next t c =
-    exits _ _ c.from_residual-in_err-next.result c.in_err-next.field-0.0 c.from_residual-in_err-next.ensures.1
-    (via (want.arms c.args.levels ∷ []) ((want.statement (suc c.args.levels)) ∷ []) _ (word_token words.Case c.args.span ∷ c.args.given.now) _ (λ s. (want.word words.End ∷ s)) (λ s. entered (want.statement (suc c.args.levels)) (expr_parts c.args.levels ++ (want.word words.Of ∷ (want.arm c.args.levels ∷ (want.arms c.args.levels ∷ (want.word words.End ∷ []))))) s _ _ _ refl refl ∙ c.in_ok-value.ensures.moves (want.word words.Of ∷ (want.arm c.args.levels ∷ (want.arms c.args.levels ∷ (want.word words.End ∷ s)))) ∙ after_word words.Of (want.arm c.args.levels ∷ (want.arms c.args.levels ∷ (want.word words.End ∷ s))) c.in_ok-of.ensures ∙ c.in_ok-first.ensures.moves (want.arms c.args.levels ∷ (want.word words.End ∷ s))) c.in_err-next.ensures)
-
-pub choice-returns-in_err-end : goal.choice-returns-in_err-end
-choice-returns-in_err-end t c =
-    exits _ _ c.from_residual-in_err-end.result c.in_err-end.field-0.0 c.from_residual-in_err-end.ensures.1
-    (via (want.word words.End ∷ []) ((want.statement (suc c.args.levels)) ∷ []) _ (word_token words.Case c.args.span ∷ c.args.given.now) _ (λ s. s) (λ s. entered (want.statement (suc c.args.levels)) (expr_parts c.args.levels ++ (want.word words.Of ∷ (want.arm c.args.levels ∷ (want.arms c.args.levels ∷ (want.word words.End ∷ []))))) s _ _ _ refl refl ∙ c.in_ok-value.ensures.moves (want.word words.Of ∷ (want.arm c.args.levels ∷ (want.arms c.args.levels ∷ (want.word words.End ∷ s)))) ∙ after_word words.Of (want.arm c.args.levels ∷ (want.arms c.args.levels ∷ (want.word words.End ∷ s))) c.in_ok-of.ensures ∙ c.in_ok-first.ensures.moves (want.arms c.args.levels ∷ (want.word words.End ∷ s)) ∙ c.in_ok-next.ensures.moves (want.word words.End ∷ s)) c.in_err-end.ensures)
-
-pub choice-returns : goal.choice-returns
-choice-returns t c =
-    rw (c.in_ok-boxed.ensures.ok, case_made _ _ _ _ _ _) (record {
-      spelled = onto refl (behind c.in_ok-value.ensures (onto c.in_ok-of.ensures (behind c.in_ok-first.ensures (behind c.in_ok-next.ensures (onto c.in_ok-end.ensures refl)))));
-      moves = λ s. entered (want.statement (suc c.args.levels)) (expr_parts c.args.levels ++ (want.word words.Of ∷ (want.arm c.args.levels ∷ (want.arms c.args.levels ∷ (want.word words.End ∷ []))))) s _ _ _ refl refl ∙ c.in_ok-value.ensures.moves (want.word words.Of ∷ (want.arm c.args.levels ∷ (want.arms c.args.levels ∷ (want.word words.End ∷ s)))) ∙ after_word words.Of (want.arm c.args.levels ∷ (want.arms c.args.levels ∷ (want.word words.End ∷ s))) c.in_ok-of.ensures ∙ c.in_ok-first.ensures.moves (want.arms c.args.levels ∷ (want.word words.End ∷ s)) ∙ c.in_ok-next.ensures.moves (want.word words.End ∷ s) ∙ after_word words.End s c.in_ok-end.ensures;
-      within = omega (arith, c.in_ok-value.ensures.within, c.in_ok-first.ensures.within, c.in_ok-next.ensures.within);
-      shorter = omega (arith, c.in_ok-value.ensures.shorter, fewer c.in_ok-of.ensures, c.in_ok-first.ensures.shorter, c.in_ok-next.ensures.shorter, fewer c.in_ok-end.ensures);
-    })
-
-pub arm-returns-in_default : goal.arm-returns-in_default
-arm-returns-in_default t c =
-    let h = rw c.in_default.is at c.in_ok-first.ensures in
-    record {
-      spelled = refl;
-      moves = λ s. skip_arm c.args.levels s c.args.given.now h.0 h.1;
-      within = omega arith;
-      shorter = omega arith;
-    }
-
-pub arm-returns-in_err-first : goal.arm-returns-in_err-first
-arm-returns-in_err-first t c =
-    exits _ _ c.from_residual.result c.in_err-first.field-0.0 c.from_residual.ensures.1 (c.in_err-first.ensures.arm c.args.levels)
-
-pub arm-returns-in_err-upper : goal.arm-returns-in_err-upper
-arm-returns-in_err-upper t c =
-    let h = rw c.in-Some.is at c.in_ok-first.ensures in
-    exits _ _ c.from_residual-in_err-upper.result c.in_err-upper.field-0.0 c.from_residual-in_err-upper.ensures.1
-    (via (want.some_label_upper ∷ []) ((want.arm c.args.levels) ∷ []) _ c.args.given.now _ (λ s. (want.labels ∷ (want.symbol symbols.Colon ∷ (statements_parts c.args.levels ++ s)))) (λ s. h.enters c.args.levels s) c.in_err-upper.ensures)
-
-pub arm-returns-in_err-next : goal.arm-returns-in_err-next
-arm-returns-in_err-next t c =
-    let h = rw c.in-Some.is at c.in_ok-first.ensures in
-    exits _ _ c.from_residual-in_err-next.result c.in_err-next.field-0.0 c.from_residual-in_err-next.ensures.1
-    (via (want.labels ∷ []) ((want.arm c.args.levels) ∷ []) _ c.args.given.now _ (λ s. (want.symbol symbols.Colon ∷ (statements_parts c.args.levels ++ s))) (λ s. h.enters c.args.levels s ∙ c.in_ok-upper.ensures.moves (want.labels ∷ (want.symbol symbols.Colon ∷ (statements_parts c.args.levels ++ s)))) c.in_err-next.ensures)
-
-pub arm-returns-in_err-colon : goal.arm-returns-in_err-colon
-arm-returns-in_err-colon t c =
-    let h = rw c.in-Some.is at c.in_ok-first.ensures in
-    exits _ _ c.from_residual-in_err-colon.result c.in_err-colon.field-0.0 c.from_residual-in_err-colon.ensures.1
-    (via (want.symbol symbols.Colon ∷ []) ((want.arm c.args.levels) ∷ []) _ c.args.given.now _ (λ s. (statements_parts c.args.levels ++ s)) (λ s. h.enters c.args.levels s ∙ c.in_ok-upper.ensures.moves (want.labels ∷ (want.symbol symbols.Colon ∷ (statements_parts c.args.levels ++ s))) ∙ c.in_ok-next.ensures.moves (want.symbol symbols.Colon ∷ (statements_parts c.args.levels ++ s))) c.in_err-colon.ensures)
-
-pub arm-returns-in_err-body : goal.arm-returns-in_err-body
-arm-returns-in_err-body t c =
-    let h = rw c.in-Some.is at c.in_ok-first.ensures in
-    exits _ _ c.from_residual-in_err-body.result c.in_err-body.field-0.0 c.from_residual-in_err-body.ensures.1
-    (via (statements_parts c.args.levels ++ []) ((want.arm c.args.levels) ∷ []) _ c.args.given.now _ (λ s. s) (λ s. h.enters c.args.levels s ∙ c.in_ok-upper.ensures.moves (want.labels ∷ (want.symbol symbols.Colon ∷ (statements_parts c.args.levels ++ s))) ∙ c.in_ok-next.ensures.moves (want.symbol symbols.Colon ∷ (statements_parts c.args.levels ++ s)) ∙ after_symbol symbols.Colon (statements_parts c.args.levels ++ s) c.in_ok-colon.ensures) c.in_err-body.ensures)
-
-pub arm-returns : goal.arm-returns
-arm-returns t c =
-    let h = rw c.in-Some.is at c.in_ok-first.ensures in
-    record {
-      spelled = first_then h (behind c.in_ok-upper.ensures (behind c.in_ok-next.ensures (onto c.in_ok-colon.ensures (behind c.in_ok-body.ensures refl))));
-      moves = λ s. h.enters c.args.levels s ∙ c.in_ok-upper.ensures.moves (want.labels ∷ (want.symbol symbols.Colon ∷ (statements_parts c.args.levels ++ s))) ∙ c.in_ok-next.ensures.moves (want.symbol symbols.Colon ∷ (statements_parts c.args.levels ++ s)) ∙ after_symbol symbols.Colon (statements_parts c.args.levels ++ s) c.in_ok-colon.ensures ∙ c.in_ok-body.ensures.moves s;
-      within = omega (arith, c.in_ok-upper.ensures.within, c.in_ok-next.ensures.within, c.in_ok-body.ensures.within);
-      shorter = omega (arith, h.shorter, c.in_ok-upper.ensures.shorter, c.in_ok-next.ensures.shorter, fewer c.in_ok-colon.ensures, c.in_ok-body.ensures.shorter);
-    }
-
 pub more_arms-returns-in_err-arm : goal.more_arms-returns-in_err-arm
 more_arms-returns-in_err-arm t c =
     exits _ _ c.from_residual.result c.in_err-arm.field-0.0 c.from_residual.ensures.1
@@ -289,104 +145,365 @@ more_arms-returns t c =
       shorter = c.loop-bar.invariant.shorter;
     }
 
+pub statements-returns-in_err-first : goal.statements-returns-in_err-first
+statements-returns-in_err-first t c =
+    exits _ _ c.from_residual.result c.in_err-first.field-0.0 c.from_residual.ensures.1
+    (via (want.statement c.args.levels ∷ []) (statements_parts c.args.levels) _ (c.args.given.now) _ (λ s. want.statements c.args.levels ∷ s) (λ s. refl) c.in_err-first.ensures)
+
+pub statements-returns-in_err-next : goal.statements-returns-in_err-next
+statements-returns-in_err-next t c =
+    exits _ _ c.from_residual-in_err-next.result c.in_err-next.field-0.0 c.from_residual-in_err-next.ensures.1
+    (via (want.statements c.args.levels ∷ []) (statements_parts c.args.levels) _ (c.args.given.now) _ (λ s. s) (λ s. c.in_ok-first.ensures.moves (want.statements c.args.levels ∷ s)) (rw c.in_err-next.ensures at c.more_statements.ensures))
+
+pub statements-returns : goal.statements-returns
+statements-returns t c =
+    let n = rw c.in_ok-next.ensures.0 at c.more_statements.ensures in
+    rw (c.in_ok-next.ensures.1, statements_made _ _) (record {
+      spelled = behind c.in_ok-first.ensures (behind n refl);
+      moves = λ s. c.in_ok-first.ensures.moves (want.statements c.args.levels ∷ s) ∙ n.moves s;
+      within = omega (arith, c.in_ok-first.ensures.within, n.within);
+      shorter = omega (arith, c.in_ok-first.ensures.shorter, n.shorter);
+    })
+
+pub guarded-returns-in_err-condition : goal.guarded-returns-in_err-condition
+guarded-returns-in_err-condition t c =
+    exits _ _ c.from_residual.result c.in_err-condition.field-0.0 c.from_residual.ensures.1
+    (via (expr_parts c.args.levels) (guarded_parts c.args.joint c.args.levels) _ (c.args.given.now) _ (λ s. want.word c.args.joint ∷ statements_parts c.args.levels ++ s) (λ s. refl) c.in_err-condition.ensures)
+
+pub guarded-returns-in_err-span : goal.guarded-returns-in_err-span
+guarded-returns-in_err-span t c =
+    exits _ _ c.from_residual-in_err-span.result c.in_err-span.field-0.0 c.from_residual-in_err-span.ensures.1
+    (via (want.word c.args.joint ∷ []) (guarded_parts c.args.joint c.args.levels) _ (c.args.given.now) _ (λ s. statements_parts c.args.levels ++ s) (λ s. c.in_ok-condition.ensures.moves (want.word c.args.joint ∷ statements_parts c.args.levels ++ s)) (rw c.in_err-span.ensures at c.need_word.ensures))
+
+pub guarded-returns-in_err-body : goal.guarded-returns-in_err-body
+guarded-returns-in_err-body t c =
+    let w = rw c.in_ok-span.ensures.0 at c.need_word.ensures in
+    exits _ _ c.from_residual-in_err-body.result c.in_err-body.field-0.0 c.from_residual-in_err-body.ensures.1
+    (via (statements_parts c.args.levels) (guarded_parts c.args.joint c.args.levels) _ (c.args.given.now) _ (λ s. s) (λ s. c.in_ok-condition.ensures.moves (want.word c.args.joint ∷ statements_parts c.args.levels ++ s) ∙ after_word c.args.joint (statements_parts c.args.levels ++ s) w) (rw c.in_err-body.ensures at c.statements.ensures))
+
+pub guarded-returns : goal.guarded-returns
+guarded-returns t c =
+    let w = rw c.in_ok-span.ensures.0 at c.need_word.ensures in
+    let b = rw c.in_ok-body.ensures.0 at c.statements.ensures in
+    rw (c.in_ok-body.ensures.1, c.in_ok-span.ensures.1) (record {
+      spelled = behind c.in_ok-condition.ensures (onto w (behind b refl));
+      moves = λ s. c.in_ok-condition.ensures.moves (want.word c.args.joint ∷ statements_parts c.args.levels ++ s) ∙ after_word c.args.joint (statements_parts c.args.levels ++ s) w ∙ b.moves s;
+      within = omega (arith, c.in_ok-condition.ensures.within, b.within);
+      shorter = omega (arith, c.in_ok-condition.ensures.shorter, fewer w, b.shorter);
+    })
+
+pub branches-returns-in_err-first : goal.branches-returns-in_err-first
+branches-returns-in_err-first t c =
+    exits _ _ c.from_residual.result c.in_err-first.field-0.0 c.from_residual.ensures.1
+    (via (guarded_parts c.args.joint c.args.levels) (guarded_parts c.args.joint c.args.levels ++ want.elsifs c.args.joint c.args.levels ∷ []) _ (c.args.given.now) _ (λ s. want.elsifs c.args.joint c.args.levels ∷ s) (λ s. refl) c.in_err-first.ensures)
+
+pub branches-returns-in_err-next : goal.branches-returns-in_err-next
+branches-returns-in_err-next t c =
+    exits _ _ c.from_residual-in_err-next.result c.in_err-next.field-0.0 c.from_residual-in_err-next.ensures.1
+    (via (want.elsifs c.args.joint c.args.levels ∷ []) (guarded_parts c.args.joint c.args.levels ++ want.elsifs c.args.joint c.args.levels ∷ []) _ (c.args.given.now) _ (λ s. s) (λ s. c.in_ok-first.ensures.moves (want.elsifs c.args.joint c.args.levels ∷ s)) (rw c.in_err-next.ensures at c.elsifs.ensures))
+
+pub branches-returns : goal.branches-returns
+branches-returns t c =
+    let n = rw c.in_ok-next.ensures.0 at c.elsifs.ensures in
+    rw (c.in_ok-next.ensures.1) (record {
+      spelled = behind c.in_ok-first.ensures (behind n refl);
+      moves = λ s. c.in_ok-first.ensures.moves (want.elsifs c.args.joint c.args.levels ∷ s) ∙ n.moves s;
+      within = omega (arith, c.in_ok-first.ensures.within, n.within);
+      shorter = omega (arith, c.in_ok-first.ensures.shorter, n.shorter);
+    })
+
+pub conditional-returns-in_err-parts : goal.conditional-returns-in_err-parts
+conditional-returns-in_err-parts t c =
+    exits _ _ c.from_residual.result c.in_err-parts.field-0.0 c.from_residual.ensures.1
+    (via (guarded_parts words.Then c.args.levels ++ want.elsifs words.Then c.args.levels ∷ []) (want.statement (suc c.args.levels) ∷ []) _ (word_token words.If c.args.span ∷ c.args.given.now) _ (λ s. want.some_else c.args.levels ∷ want.word words.End ∷ s) (λ s. entered (want.statement (suc c.args.levels)) (guarded_parts words.Then c.args.levels ++ want.elsifs words.Then c.args.levels ∷ want.some_else c.args.levels ∷ want.word words.End ∷ []) s _ _ _ refl refl) c.in_err-parts.ensures)
+
+pub conditional-returns-in_err-other : goal.conditional-returns-in_err-other
+conditional-returns-in_err-other t c =
+    exits _ _ c.from_residual-in_err-other.result c.in_err-other.field-0.0 c.from_residual-in_err-other.ensures.1
+    (via (want.some_else c.args.levels ∷ []) (want.statement (suc c.args.levels) ∷ []) _ (word_token words.If c.args.span ∷ c.args.given.now) _ (λ s. want.word words.End ∷ s) (λ s. entered (want.statement (suc c.args.levels)) (guarded_parts words.Then c.args.levels ++ want.elsifs words.Then c.args.levels ∷ want.some_else c.args.levels ∷ want.word words.End ∷ []) s _ _ _ refl refl ∙ c.in_ok-parts.ensures.moves (want.some_else c.args.levels ∷ want.word words.End ∷ s)) (rw c.in_err-other.ensures at c.otherwise.ensures))
+
+pub conditional-returns-in_err-end : goal.conditional-returns-in_err-end
+conditional-returns-in_err-end t c =
+    let o = rw c.in_ok-other.ensures.0 at c.otherwise.ensures in
+    exits _ _ c.from_residual-in_err-end.result c.in_err-end.field-0.0 c.from_residual-in_err-end.ensures.1
+    (via (want.word words.End ∷ []) (want.statement (suc c.args.levels) ∷ []) _ (word_token words.If c.args.span ∷ c.args.given.now) _ (λ s. s) (λ s. entered (want.statement (suc c.args.levels)) (guarded_parts words.Then c.args.levels ++ want.elsifs words.Then c.args.levels ∷ want.some_else c.args.levels ∷ want.word words.End ∷ []) s _ _ _ refl refl ∙ c.in_ok-parts.ensures.moves (want.some_else c.args.levels ∷ want.word words.End ∷ s) ∙ o.moves (want.word words.End ∷ s)) (rw c.in_err-end.ensures at c.need_word.ensures))
+
+pub conditional-returns : goal.conditional-returns
+conditional-returns t c =
+    let o = rw c.in_ok-other.ensures.0 at c.otherwise.ensures in
+    let w = rw c.in_ok-end.ensures.0 at c.need_word.ensures in
+    rw (c.in_ok-boxed.ensures.ok, c.in_ok-end.ensures.1, c.in_ok-other.ensures.1, if_made _ _ _ _, guarded_made _ _ _ _) (record {
+      spelled = onto refl (behind c.in_ok-parts.ensures (behind o (onto w refl)));
+      moves = λ s. entered (want.statement (suc c.args.levels)) (guarded_parts words.Then c.args.levels ++ want.elsifs words.Then c.args.levels ∷ want.some_else c.args.levels ∷ want.word words.End ∷ []) s _ _ _ refl refl ∙ c.in_ok-parts.ensures.moves (want.some_else c.args.levels ∷ want.word words.End ∷ s) ∙ o.moves (want.word words.End ∷ s) ∙ after_word words.End s w;
+      within = omega (arith, c.in_ok-parts.ensures.within, o.within);
+      shorter = omega (arith, c.in_ok-parts.ensures.shorter, o.shorter, fewer w);
+    })
+
+pub choice-returns-in_err-value : goal.choice-returns-in_err-value
+choice-returns-in_err-value t c =
+    exits _ _ c.from_residual.result c.in_err-value.field-0.0 c.from_residual.ensures.1
+    (via (expr_parts c.args.levels) (want.statement (suc c.args.levels) ∷ []) _ (word_token words.Case c.args.span ∷ c.args.given.now) _ (λ s. want.word words.Of ∷ want.arm c.args.levels ∷ want.arms c.args.levels ∷ want.word words.End ∷ s) (λ s. entered (want.statement (suc c.args.levels)) (expr_parts c.args.levels ++ want.word words.Of ∷ want.arm c.args.levels ∷ want.arms c.args.levels ∷ want.word words.End ∷ []) s _ _ _ refl refl) c.in_err-value.ensures)
+
+pub choice-returns-in_err-arms : goal.choice-returns-in_err-arms
+choice-returns-in_err-arms t c =
+    exits _ _ c.from_residual-in_err-arms.result c.in_err-arms.field-0.0 c.from_residual-in_err-arms.ensures.1
+    (via (want.word words.Of ∷ want.arm c.args.levels ∷ want.arms c.args.levels ∷ want.word words.End ∷ []) (want.statement (suc c.args.levels) ∷ []) _ (word_token words.Case c.args.span ∷ c.args.given.now) _ (λ s. s) (λ s. entered (want.statement (suc c.args.levels)) (expr_parts c.args.levels ++ want.word words.Of ∷ want.arm c.args.levels ∷ want.arms c.args.levels ∷ want.word words.End ∷ []) s _ _ _ refl refl ∙ c.in_ok-value.ensures.moves (want.word words.Of ∷ want.arm c.args.levels ∷ want.arms c.args.levels ∷ want.word words.End ∷ s)) (rw c.in_err-arms.ensures at c.arms.ensures))
+
+pub choice-returns : goal.choice-returns
+choice-returns t c =
+    let a = rw c.in_ok-arms.ensures.0 at c.arms.ensures in
+    rw (c.in_ok-boxed.ensures.ok, c.in_ok-arms.ensures.1, case_made _ _ _ _ _ _) (record {
+      spelled = onto refl (behind c.in_ok-value.ensures (behind a refl));
+      moves = λ s. entered (want.statement (suc c.args.levels)) (expr_parts c.args.levels ++ want.word words.Of ∷ want.arm c.args.levels ∷ want.arms c.args.levels ∷ want.word words.End ∷ []) s _ _ _ refl refl ∙ c.in_ok-value.ensures.moves (want.word words.Of ∷ want.arm c.args.levels ∷ want.arms c.args.levels ∷ want.word words.End ∷ s) ∙ a.moves s;
+      within = omega (arith, c.in_ok-value.ensures.within, a.within);
+      shorter = omega (arith, c.in_ok-value.ensures.shorter, a.shorter);
+    })
+
+pub arms-returns-in_err-of : goal.arms-returns-in_err-of
+arms-returns-in_err-of t c =
+    exits _ _ c.from_residual.result c.in_err-of.field-0.0 c.from_residual.ensures.1
+    (via (want.word words.Of ∷ []) (want.word words.Of ∷ want.arm c.args.levels ∷ want.arms c.args.levels ∷ want.word words.End ∷ []) _ (c.args.given.now) _ (λ s. want.arm c.args.levels ∷ want.arms c.args.levels ∷ want.word words.End ∷ s) (λ s. refl) c.in_err-of.ensures)
+
+pub arms-returns-in_err-first : goal.arms-returns-in_err-first
+arms-returns-in_err-first t c =
+    exits _ _ c.from_residual-in_err-first.result c.in_err-first.field-0.0 c.from_residual-in_err-first.ensures.1
+    (via (want.arm c.args.levels ∷ []) (want.word words.Of ∷ want.arm c.args.levels ∷ want.arms c.args.levels ∷ want.word words.End ∷ []) _ (c.args.given.now) _ (λ s. want.arms c.args.levels ∷ want.word words.End ∷ s) (λ s. after_word words.Of (want.arm c.args.levels ∷ want.arms c.args.levels ∷ want.word words.End ∷ s) c.in_ok-of.ensures) c.in_err-first.ensures)
+
+pub arms-returns-in_err-next : goal.arms-returns-in_err-next
+arms-returns-in_err-next t c =
+    exits _ _ c.from_residual-in_err-next.result c.in_err-next.field-0.0 c.from_residual-in_err-next.ensures.1
+    (via (want.arms c.args.levels ∷ []) (want.word words.Of ∷ want.arm c.args.levels ∷ want.arms c.args.levels ∷ want.word words.End ∷ []) _ (c.args.given.now) _ (λ s. want.word words.End ∷ s) (λ s. after_word words.Of (want.arm c.args.levels ∷ want.arms c.args.levels ∷ want.word words.End ∷ s) c.in_ok-of.ensures ∙ c.in_ok-first.ensures.moves (want.arms c.args.levels ∷ want.word words.End ∷ s)) (rw c.in_err-next.ensures at c.more_arms.ensures))
+
+pub arms-returns-in_err-end : goal.arms-returns-in_err-end
+arms-returns-in_err-end t c =
+    let n = rw c.in_ok-next.ensures.0 at c.more_arms.ensures in
+    exits _ _ c.from_residual-in_err-end.result c.in_err-end.field-0.0 c.from_residual-in_err-end.ensures.1
+    (via (want.word words.End ∷ []) (want.word words.Of ∷ want.arm c.args.levels ∷ want.arms c.args.levels ∷ want.word words.End ∷ []) _ (c.args.given.now) _ (λ s. s) (λ s. after_word words.Of (want.arm c.args.levels ∷ want.arms c.args.levels ∷ want.word words.End ∷ s) c.in_ok-of.ensures ∙ c.in_ok-first.ensures.moves (want.arms c.args.levels ∷ want.word words.End ∷ s) ∙ n.moves (want.word words.End ∷ s)) (rw c.in_err-end.ensures at c.need_word-2.ensures))
+
+pub arms-returns : goal.arms-returns
+arms-returns t c =
+    let n = rw c.in_ok-next.ensures.0 at c.more_arms.ensures in
+    let w = rw c.in_ok-end.ensures.0 at c.need_word-2.ensures in
+    rw (c.in_ok-end.ensures.1, c.in_ok-next.ensures.1) (record {
+      spelled = onto c.in_ok-of.ensures (behind c.in_ok-first.ensures (behind n (onto w refl)));
+      moves = λ s. after_word words.Of (want.arm c.args.levels ∷ want.arms c.args.levels ∷ want.word words.End ∷ s) c.in_ok-of.ensures ∙ c.in_ok-first.ensures.moves (want.arms c.args.levels ∷ want.word words.End ∷ s) ∙ n.moves (want.word words.End ∷ s) ∙ after_word words.End s w;
+      within = omega (arith, c.in_ok-first.ensures.within, n.within);
+      shorter = omega (arith, fewer c.in_ok-of.ensures, c.in_ok-first.ensures.shorter, n.shorter, fewer w);
+    })
+
+pub arm-returns-in_default : goal.arm-returns-in_default
+arm-returns-in_default t c =
+    let h = rw c.in_default.is at c.in_ok-first.ensures in
+    record {
+      spelled = refl;
+      moves = λ s. skip_arm c.args.levels s c.args.given.now h.0 h.1;
+      within = omega arith;
+      shorter = omega arith;
+    }
+
+pub arm-returns-in_err-first : goal.arm-returns-in_err-first
+arm-returns-in_err-first t c =
+    exits _ _ c.from_residual.result c.in_err-first.field-0.0 c.from_residual.ensures.1 (c.in_err-first.ensures.arm c.args.levels)
+
+pub arm-returns-in_err-labels : goal.arm-returns-in_err-labels
+arm-returns-in_err-labels t c =
+    let h = rw c.in-Some.is at c.in_ok-first.ensures in
+    exits _ _ c.from_residual-in_err-labels.result c.in_err-labels.field-0.0 c.from_residual-in_err-labels.ensures.1
+    (via (want.some_label_upper ∷ want.labels ∷ want.symbol symbols.Colon ∷ []) (want.arm c.args.levels ∷ []) _ (c.args.given.now) _ (λ s. statements_parts c.args.levels ++ s) (λ s. h.enters c.args.levels s) c.in_err-labels.ensures)
+
+pub arm-returns-in_err-body : goal.arm-returns-in_err-body
+arm-returns-in_err-body t c =
+    let h = rw c.in-Some.is at c.in_ok-first.ensures in
+    exits _ _ c.from_residual-in_err-body.result c.in_err-body.field-0.0 c.from_residual-in_err-body.ensures.1
+    (via (statements_parts c.args.levels) (want.arm c.args.levels ∷ []) _ (c.args.given.now) _ (λ s. s) (λ s. h.enters c.args.levels s ∙ c.in_ok-labels.ensures.0.moves (statements_parts c.args.levels ++ s)) (rw c.in_err-body.ensures at c.statements.ensures))
+
+pub arm-returns : goal.arm-returns
+arm-returns t c =
+    let h = rw c.in-Some.is at c.in_ok-first.ensures in
+    let b = rw c.in_ok-body.ensures.0 at c.statements.ensures in
+    rw (c.in_ok-body.ensures.1, c.in_ok-labels.ensures.1) (record {
+      spelled = first_then h (behind c.in_ok-labels.ensures.0 (behind b refl));
+      moves = λ s. h.enters c.args.levels s ∙ c.in_ok-labels.ensures.0.moves (statements_parts c.args.levels ++ s) ∙ b.moves s;
+      within = omega (arith, c.in_ok-labels.ensures.0.within, b.within);
+      shorter = omega (arith, h.shorter, c.in_ok-labels.ensures.0.shorter, b.shorter);
+    })
+
 pub repetition-returns-in_err-parts : goal.repetition-returns-in_err-parts
 repetition-returns-in_err-parts t c =
     exits _ _ c.from_residual.result c.in_err-parts.field-0.0 c.from_residual.ensures.1
-    (via (guarded_parts words.Do c.args.levels ++ []) ((want.statement (suc c.args.levels)) ∷ []) _ (word_token words.While c.args.span ∷ c.args.given.now) _ (λ s. (want.elsifs words.Do c.args.levels ∷ (want.word words.End ∷ s))) (λ s. entered (want.statement (suc c.args.levels)) (guarded_parts words.Do c.args.levels ++ (want.elsifs words.Do c.args.levels ∷ (want.word words.End ∷ []))) s _ _ _ refl refl) c.in_err-parts.ensures)
-
-pub repetition-returns-in_err-next : goal.repetition-returns-in_err-next
-repetition-returns-in_err-next t c =
-    exits _ _ c.from_residual-in_err-next.result c.in_err-next.field-0.0 c.from_residual-in_err-next.ensures.1
-    (via (want.elsifs words.Do c.args.levels ∷ []) ((want.statement (suc c.args.levels)) ∷ []) _ (word_token words.While c.args.span ∷ c.args.given.now) _ (λ s. (want.word words.End ∷ s)) (λ s. entered (want.statement (suc c.args.levels)) (guarded_parts words.Do c.args.levels ++ (want.elsifs words.Do c.args.levels ∷ (want.word words.End ∷ []))) s _ _ _ refl refl ∙ c.in_ok-parts.ensures.moves (want.elsifs words.Do c.args.levels ∷ (want.word words.End ∷ s))) c.in_err-next.ensures)
+    (via (guarded_parts words.Do c.args.levels ++ want.elsifs words.Do c.args.levels ∷ []) (want.statement (suc c.args.levels) ∷ []) _ (word_token words.While c.args.span ∷ c.args.given.now) _ (λ s. want.word words.End ∷ s) (λ s. entered (want.statement (suc c.args.levels)) (guarded_parts words.Do c.args.levels ++ want.elsifs words.Do c.args.levels ∷ want.word words.End ∷ []) s _ _ _ refl refl) c.in_err-parts.ensures)
 
 pub repetition-returns-in_err-end : goal.repetition-returns-in_err-end
 repetition-returns-in_err-end t c =
     exits _ _ c.from_residual-in_err-end.result c.in_err-end.field-0.0 c.from_residual-in_err-end.ensures.1
-    (via (want.word words.End ∷ []) ((want.statement (suc c.args.levels)) ∷ []) _ (word_token words.While c.args.span ∷ c.args.given.now) _ (λ s. s) (λ s. entered (want.statement (suc c.args.levels)) (guarded_parts words.Do c.args.levels ++ (want.elsifs words.Do c.args.levels ∷ (want.word words.End ∷ []))) s _ _ _ refl refl ∙ c.in_ok-parts.ensures.moves (want.elsifs words.Do c.args.levels ∷ (want.word words.End ∷ s)) ∙ c.in_ok-next.ensures.moves (want.word words.End ∷ s)) c.in_err-end.ensures)
+    (via (want.word words.End ∷ []) (want.statement (suc c.args.levels) ∷ []) _ (word_token words.While c.args.span ∷ c.args.given.now) _ (λ s. s) (λ s. entered (want.statement (suc c.args.levels)) (guarded_parts words.Do c.args.levels ++ want.elsifs words.Do c.args.levels ∷ want.word words.End ∷ []) s _ _ _ refl refl ∙ c.in_ok-parts.ensures.moves (want.word words.End ∷ s)) (rw c.in_err-end.ensures at c.need_word.ensures))
 
 pub repetition-returns : goal.repetition-returns
 repetition-returns t c =
-    rw (c.in_ok-boxed.ensures.ok, while_made _ _ _, guarded_made _ _ _ _) (record {
-      spelled = onto refl (behind c.in_ok-parts.ensures (behind c.in_ok-next.ensures (onto c.in_ok-end.ensures refl)));
-      moves = λ s. entered (want.statement (suc c.args.levels)) (guarded_parts words.Do c.args.levels ++ (want.elsifs words.Do c.args.levels ∷ (want.word words.End ∷ []))) s _ _ _ refl refl ∙ c.in_ok-parts.ensures.moves (want.elsifs words.Do c.args.levels ∷ (want.word words.End ∷ s)) ∙ c.in_ok-next.ensures.moves (want.word words.End ∷ s) ∙ after_word words.End s c.in_ok-end.ensures;
-      within = omega (arith, c.in_ok-parts.ensures.within, c.in_ok-next.ensures.within);
-      shorter = omega (arith, c.in_ok-parts.ensures.shorter, c.in_ok-next.ensures.shorter, fewer c.in_ok-end.ensures);
+    let w = rw c.in_ok-end.ensures.0 at c.need_word.ensures in
+    rw (c.in_ok-boxed.ensures.ok, c.in_ok-end.ensures.1, while_made _ _ _, guarded_made _ _ _ _) (record {
+      spelled = onto refl (behind c.in_ok-parts.ensures (onto w refl));
+      moves = λ s. entered (want.statement (suc c.args.levels)) (guarded_parts words.Do c.args.levels ++ want.elsifs words.Do c.args.levels ∷ want.word words.End ∷ []) s _ _ _ refl refl ∙ c.in_ok-parts.ensures.moves (want.word words.End ∷ s) ∙ after_word words.End s w;
+      within = omega (arith, c.in_ok-parts.ensures.within);
+      shorter = omega (arith, c.in_ok-parts.ensures.shorter, fewer w);
     })
 
 pub repeat-returns-in_err-body : goal.repeat-returns-in_err-body
 repeat-returns-in_err-body t c =
     exits _ _ c.from_residual.result c.in_err-body.field-0.0 c.from_residual.ensures.1
-    (via (statements_parts c.args.levels ++ []) ((want.statement (suc c.args.levels)) ∷ []) _ (word_token words.Repeat c.args.span ∷ c.args.given.now) _ (λ s. (want.word words.Until ∷ (expr_parts c.args.levels ++ s))) (λ s. entered (want.statement (suc c.args.levels)) (statements_parts c.args.levels ++ (want.word words.Until ∷ (expr_parts c.args.levels ++ []))) s _ _ _ refl refl) c.in_err-body.ensures)
+    (via (statements_parts c.args.levels) (want.statement (suc c.args.levels) ∷ []) _ (word_token words.Repeat c.args.span ∷ c.args.given.now) _ (λ s. want.word words.Until ∷ expr_parts c.args.levels ++ s) (λ s. entered (want.statement (suc c.args.levels)) (statements_parts c.args.levels ++ want.word words.Until ∷ expr_parts c.args.levels) s _ _ _ refl refl) c.in_err-body.ensures)
 
 pub repeat-returns-in_err-until : goal.repeat-returns-in_err-until
 repeat-returns-in_err-until t c =
     exits _ _ c.from_residual-in_err-until.result c.in_err-until.field-0.0 c.from_residual-in_err-until.ensures.1
-    (via (want.word words.Until ∷ []) ((want.statement (suc c.args.levels)) ∷ []) _ (word_token words.Repeat c.args.span ∷ c.args.given.now) _ (λ s. (expr_parts c.args.levels ++ s)) (λ s. entered (want.statement (suc c.args.levels)) (statements_parts c.args.levels ++ (want.word words.Until ∷ (expr_parts c.args.levels ++ []))) s _ _ _ refl refl ∙ c.in_ok-body.ensures.moves (want.word words.Until ∷ (expr_parts c.args.levels ++ s))) c.in_err-until.ensures)
+    (via (want.word words.Until ∷ []) (want.statement (suc c.args.levels) ∷ []) _ (word_token words.Repeat c.args.span ∷ c.args.given.now) _ (λ s. expr_parts c.args.levels ++ s) (λ s. entered (want.statement (suc c.args.levels)) (statements_parts c.args.levels ++ want.word words.Until ∷ expr_parts c.args.levels) s _ _ _ refl refl ∙ c.in_ok-body.ensures.moves (want.word words.Until ∷ expr_parts c.args.levels ++ s)) (rw c.in_err-until.ensures at c.need_word.ensures))
 
 pub repeat-returns-in_err-condition : goal.repeat-returns-in_err-condition
 repeat-returns-in_err-condition t c =
+    let w = rw c.in_ok-until.ensures.0 at c.need_word.ensures in
     exits _ _ c.from_residual-in_err-condition.result c.in_err-condition.field-0.0 c.from_residual-in_err-condition.ensures.1
-    (via (expr_parts c.args.levels ++ []) ((want.statement (suc c.args.levels)) ∷ []) _ (word_token words.Repeat c.args.span ∷ c.args.given.now) _ (λ s. s) (λ s. entered (want.statement (suc c.args.levels)) (statements_parts c.args.levels ++ (want.word words.Until ∷ (expr_parts c.args.levels ++ []))) s _ _ _ refl refl ∙ c.in_ok-body.ensures.moves (want.word words.Until ∷ (expr_parts c.args.levels ++ s)) ∙ after_word words.Until (expr_parts c.args.levels ++ s) c.in_ok-until.ensures) c.in_err-condition.ensures)
+    (via (expr_parts c.args.levels) (want.statement (suc c.args.levels) ∷ []) _ (word_token words.Repeat c.args.span ∷ c.args.given.now) _ (λ s. s) (λ s. entered (want.statement (suc c.args.levels)) (statements_parts c.args.levels ++ want.word words.Until ∷ expr_parts c.args.levels) s _ _ _ refl refl ∙ c.in_ok-body.ensures.moves (want.word words.Until ∷ expr_parts c.args.levels ++ s) ∙ after_word words.Until (expr_parts c.args.levels ++ s) w) (rw c.in_err-condition.ensures at c.expr.ensures))
 
 pub repeat-returns : goal.repeat-returns
 repeat-returns t c =
-    rw (c.in_ok-boxed.ensures.ok, repeat_made _ _ _ _) (record {
-      spelled = onto refl (behind c.in_ok-body.ensures (onto c.in_ok-until.ensures (behind c.in_ok-condition.ensures refl)));
-      moves = λ s. entered (want.statement (suc c.args.levels)) (statements_parts c.args.levels ++ (want.word words.Until ∷ (expr_parts c.args.levels ++ []))) s _ _ _ refl refl ∙ c.in_ok-body.ensures.moves (want.word words.Until ∷ (expr_parts c.args.levels ++ s)) ∙ after_word words.Until (expr_parts c.args.levels ++ s) c.in_ok-until.ensures ∙ c.in_ok-condition.ensures.moves s;
-      within = omega (arith, c.in_ok-body.ensures.within, c.in_ok-condition.ensures.within);
-      shorter = omega (arith, c.in_ok-body.ensures.shorter, fewer c.in_ok-until.ensures, c.in_ok-condition.ensures.shorter);
+    let w = rw c.in_ok-until.ensures.0 at c.need_word.ensures in
+    let e = rw c.in_ok-condition.ensures.0 at c.expr.ensures in
+    rw (c.in_ok-boxed.ensures.ok, c.in_ok-condition.ensures.1, c.in_ok-until.ensures.1, repeat_made _ _ _ _) (record {
+      spelled = onto refl (behind c.in_ok-body.ensures (onto w (behind e refl)));
+      moves = λ s. entered (want.statement (suc c.args.levels)) (statements_parts c.args.levels ++ want.word words.Until ∷ expr_parts c.args.levels) s _ _ _ refl refl ∙ c.in_ok-body.ensures.moves (want.word words.Until ∷ expr_parts c.args.levels ++ s) ∙ after_word words.Until (expr_parts c.args.levels ++ s) w ∙ e.moves s;
+      within = omega (arith, c.in_ok-body.ensures.within, e.within);
+      shorter = omega (arith, c.in_ok-body.ensures.shorter, fewer w, e.shorter);
     })
 
-pub counted-returns-in_err-variable : goal.counted-returns-in_err-variable
-counted-returns-in_err-variable t c =
-    exits _ _ c.from_residual.result c.in_err-variable.field-0.0 c.from_residual.ensures.1
-    (via (want.ident ∷ []) ((want.statement (suc c.args.levels)) ∷ []) _ (word_token words.For c.args.span ∷ c.args.given.now) _ (λ s. (want.symbol symbols.Becomes ∷ (expr_parts c.args.levels ++ (want.word words.To ∷ (expr_parts c.args.levels ++ (want.some_step c.args.levels ∷ (want.word words.Do ∷ (statements_parts c.args.levels ++ (want.word words.End ∷ s))))))))) (λ s. entered (want.statement (suc c.args.levels)) (want.ident ∷ (want.symbol symbols.Becomes ∷ (expr_parts c.args.levels ++ (want.word words.To ∷ (expr_parts c.args.levels ++ (want.some_step c.args.levels ∷ (want.word words.Do ∷ (statements_parts c.args.levels ++ (want.word words.End ∷ []))))))))) s _ _ _ refl refl) c.in_err-variable.ensures)
+pub counted-returns-in_err-start : goal.counted-returns-in_err-start
+counted-returns-in_err-start t c =
+    exits _ _ c.from_residual.result c.in_err-start.field-0.0 c.from_residual.ensures.1
+    (via (want.ident ∷ want.symbol symbols.Becomes ∷ expr_parts c.args.levels) (want.statement (suc c.args.levels) ∷ []) _ (word_token words.For c.args.span ∷ c.args.given.now) _ (λ s. want.word words.To ∷ expr_parts c.args.levels ++ want.some_step c.args.levels ∷ want.word words.Do ∷ statements_parts c.args.levels ++ want.word words.End ∷ s) (λ s. entered (want.statement (suc c.args.levels)) (want.ident ∷ want.symbol symbols.Becomes ∷ expr_parts c.args.levels ++ want.word words.To ∷ expr_parts c.args.levels ++ want.some_step c.args.levels ∷ want.word words.Do ∷ statements_parts c.args.levels ++ want.word words.End ∷ []) s _ _ _ refl refl) c.in_err-start.ensures)
 
-pub counted-returns-in_err-becomes : goal.counted-returns-in_err-becomes
-counted-returns-in_err-becomes t c =
-    exits _ _ c.from_residual-in_err-becomes.result c.in_err-becomes.field-0.0 c.from_residual-in_err-becomes.ensures.1
-    (via (want.symbol symbols.Becomes ∷ []) ((want.statement (suc c.args.levels)) ∷ []) _ (word_token words.For c.args.span ∷ c.args.given.now) _ (λ s. (expr_parts c.args.levels ++ (want.word words.To ∷ (expr_parts c.args.levels ++ (want.some_step c.args.levels ∷ (want.word words.Do ∷ (statements_parts c.args.levels ++ (want.word words.End ∷ s)))))))) (λ s. entered (want.statement (suc c.args.levels)) (want.ident ∷ (want.symbol symbols.Becomes ∷ (expr_parts c.args.levels ++ (want.word words.To ∷ (expr_parts c.args.levels ++ (want.some_step c.args.levels ∷ (want.word words.Do ∷ (statements_parts c.args.levels ++ (want.word words.End ∷ []))))))))) s _ _ _ refl refl ∙ after_ident (want.symbol symbols.Becomes ∷ (expr_parts c.args.levels ++ (want.word words.To ∷ (expr_parts c.args.levels ++ (want.some_step c.args.levels ∷ (want.word words.Do ∷ (statements_parts c.args.levels ++ (want.word words.End ∷ s)))))))) c.in_ok-variable.ensures) c.in_err-becomes.ensures)
+pub counted-returns-in_err-limits : goal.counted-returns-in_err-limits
+counted-returns-in_err-limits t c =
+    exits _ _ c.from_residual-in_err-limits.result c.in_err-limits.field-0.0 c.from_residual-in_err-limits.ensures.1
+    (via (want.word words.To ∷ expr_parts c.args.levels ++ want.some_step c.args.levels ∷ []) (want.statement (suc c.args.levels) ∷ []) _ (word_token words.For c.args.span ∷ c.args.given.now) _ (λ s. want.word words.Do ∷ statements_parts c.args.levels ++ want.word words.End ∷ s) (λ s. entered (want.statement (suc c.args.levels)) (want.ident ∷ want.symbol symbols.Becomes ∷ expr_parts c.args.levels ++ want.word words.To ∷ expr_parts c.args.levels ++ want.some_step c.args.levels ∷ want.word words.Do ∷ statements_parts c.args.levels ++ want.word words.End ∷ []) s _ _ _ refl refl ∙ c.in_ok-start.ensures.moves (want.word words.To ∷ expr_parts c.args.levels ++ want.some_step c.args.levels ∷ want.word words.Do ∷ statements_parts c.args.levels ++ want.word words.End ∷ s)) (rw c.in_err-limits.ensures at c.limits.ensures))
 
-pub counted-returns-in_err-from : goal.counted-returns-in_err-from
-counted-returns-in_err-from t c =
-    exits _ _ c.from_residual-in_err-from.result c.in_err-from.field-0.0 c.from_residual-in_err-from.ensures.1
-    (via (expr_parts c.args.levels ++ []) ((want.statement (suc c.args.levels)) ∷ []) _ (word_token words.For c.args.span ∷ c.args.given.now) _ (λ s. (want.word words.To ∷ (expr_parts c.args.levels ++ (want.some_step c.args.levels ∷ (want.word words.Do ∷ (statements_parts c.args.levels ++ (want.word words.End ∷ s))))))) (λ s. entered (want.statement (suc c.args.levels)) (want.ident ∷ (want.symbol symbols.Becomes ∷ (expr_parts c.args.levels ++ (want.word words.To ∷ (expr_parts c.args.levels ++ (want.some_step c.args.levels ∷ (want.word words.Do ∷ (statements_parts c.args.levels ++ (want.word words.End ∷ []))))))))) s _ _ _ refl refl ∙ after_ident (want.symbol symbols.Becomes ∷ (expr_parts c.args.levels ++ (want.word words.To ∷ (expr_parts c.args.levels ++ (want.some_step c.args.levels ∷ (want.word words.Do ∷ (statements_parts c.args.levels ++ (want.word words.End ∷ s)))))))) c.in_ok-variable.ensures ∙ after_symbol symbols.Becomes (expr_parts c.args.levels ++ (want.word words.To ∷ (expr_parts c.args.levels ++ (want.some_step c.args.levels ∷ (want.word words.Do ∷ (statements_parts c.args.levels ++ (want.word words.End ∷ s))))))) c.in_ok-becomes.ensures) c.in_err-from.ensures)
-
-pub counted-returns-in_err-to_word : goal.counted-returns-in_err-to_word
-counted-returns-in_err-to_word t c =
-    exits _ _ c.from_residual-in_err-to_word.result c.in_err-to_word.field-0.0 c.from_residual-in_err-to_word.ensures.1
-    (via (want.word words.To ∷ []) ((want.statement (suc c.args.levels)) ∷ []) _ (word_token words.For c.args.span ∷ c.args.given.now) _ (λ s. (expr_parts c.args.levels ++ (want.some_step c.args.levels ∷ (want.word words.Do ∷ (statements_parts c.args.levels ++ (want.word words.End ∷ s)))))) (λ s. entered (want.statement (suc c.args.levels)) (want.ident ∷ (want.symbol symbols.Becomes ∷ (expr_parts c.args.levels ++ (want.word words.To ∷ (expr_parts c.args.levels ++ (want.some_step c.args.levels ∷ (want.word words.Do ∷ (statements_parts c.args.levels ++ (want.word words.End ∷ []))))))))) s _ _ _ refl refl ∙ after_ident (want.symbol symbols.Becomes ∷ (expr_parts c.args.levels ++ (want.word words.To ∷ (expr_parts c.args.levels ++ (want.some_step c.args.levels ∷ (want.word words.Do ∷ (statements_parts c.args.levels ++ (want.word words.End ∷ s)))))))) c.in_ok-variable.ensures ∙ after_symbol symbols.Becomes (expr_parts c.args.levels ++ (want.word words.To ∷ (expr_parts c.args.levels ++ (want.some_step c.args.levels ∷ (want.word words.Do ∷ (statements_parts c.args.levels ++ (want.word words.End ∷ s))))))) c.in_ok-becomes.ensures ∙ c.in_ok-from.ensures.moves (want.word words.To ∷ (expr_parts c.args.levels ++ (want.some_step c.args.levels ∷ (want.word words.Do ∷ (statements_parts c.args.levels ++ (want.word words.End ∷ s))))))) c.in_err-to_word.ensures)
-
-pub counted-returns-in_err-limit : goal.counted-returns-in_err-limit
-counted-returns-in_err-limit t c =
-    exits _ _ c.from_residual-in_err-limit.result c.in_err-limit.field-0.0 c.from_residual-in_err-limit.ensures.1
-    (via (expr_parts c.args.levels ++ []) ((want.statement (suc c.args.levels)) ∷ []) _ (word_token words.For c.args.span ∷ c.args.given.now) _ (λ s. (want.some_step c.args.levels ∷ (want.word words.Do ∷ (statements_parts c.args.levels ++ (want.word words.End ∷ s))))) (λ s. entered (want.statement (suc c.args.levels)) (want.ident ∷ (want.symbol symbols.Becomes ∷ (expr_parts c.args.levels ++ (want.word words.To ∷ (expr_parts c.args.levels ++ (want.some_step c.args.levels ∷ (want.word words.Do ∷ (statements_parts c.args.levels ++ (want.word words.End ∷ []))))))))) s _ _ _ refl refl ∙ after_ident (want.symbol symbols.Becomes ∷ (expr_parts c.args.levels ++ (want.word words.To ∷ (expr_parts c.args.levels ++ (want.some_step c.args.levels ∷ (want.word words.Do ∷ (statements_parts c.args.levels ++ (want.word words.End ∷ s)))))))) c.in_ok-variable.ensures ∙ after_symbol symbols.Becomes (expr_parts c.args.levels ++ (want.word words.To ∷ (expr_parts c.args.levels ++ (want.some_step c.args.levels ∷ (want.word words.Do ∷ (statements_parts c.args.levels ++ (want.word words.End ∷ s))))))) c.in_ok-becomes.ensures ∙ c.in_ok-from.ensures.moves (want.word words.To ∷ (expr_parts c.args.levels ++ (want.some_step c.args.levels ∷ (want.word words.Do ∷ (statements_parts c.args.levels ++ (want.word words.End ∷ s)))))) ∙ after_word words.To (expr_parts c.args.levels ++ (want.some_step c.args.levels ∷ (want.word words.Do ∷ (statements_parts c.args.levels ++ (want.word words.End ∷ s))))) c.in_ok-to_word.ensures) c.in_err-limit.ensures)
-
-pub counted-returns-in_err-step : goal.counted-returns-in_err-step
-counted-returns-in_err-step t c =
-    exits _ _ c.from_residual-in_err-step.result c.in_err-step.field-0.0 c.from_residual-in_err-step.ensures.1
-    (via (want.some_step c.args.levels ∷ []) ((want.statement (suc c.args.levels)) ∷ []) _ (word_token words.For c.args.span ∷ c.args.given.now) _ (λ s. (want.word words.Do ∷ (statements_parts c.args.levels ++ (want.word words.End ∷ s)))) (λ s. entered (want.statement (suc c.args.levels)) (want.ident ∷ (want.symbol symbols.Becomes ∷ (expr_parts c.args.levels ++ (want.word words.To ∷ (expr_parts c.args.levels ++ (want.some_step c.args.levels ∷ (want.word words.Do ∷ (statements_parts c.args.levels ++ (want.word words.End ∷ []))))))))) s _ _ _ refl refl ∙ after_ident (want.symbol symbols.Becomes ∷ (expr_parts c.args.levels ++ (want.word words.To ∷ (expr_parts c.args.levels ++ (want.some_step c.args.levels ∷ (want.word words.Do ∷ (statements_parts c.args.levels ++ (want.word words.End ∷ s)))))))) c.in_ok-variable.ensures ∙ after_symbol symbols.Becomes (expr_parts c.args.levels ++ (want.word words.To ∷ (expr_parts c.args.levels ++ (want.some_step c.args.levels ∷ (want.word words.Do ∷ (statements_parts c.args.levels ++ (want.word words.End ∷ s))))))) c.in_ok-becomes.ensures ∙ c.in_ok-from.ensures.moves (want.word words.To ∷ (expr_parts c.args.levels ++ (want.some_step c.args.levels ∷ (want.word words.Do ∷ (statements_parts c.args.levels ++ (want.word words.End ∷ s)))))) ∙ after_word words.To (expr_parts c.args.levels ++ (want.some_step c.args.levels ∷ (want.word words.Do ∷ (statements_parts c.args.levels ++ (want.word words.End ∷ s))))) c.in_ok-to_word.ensures ∙ c.in_ok-limit.ensures.moves (want.some_step c.args.levels ∷ (want.word words.Do ∷ (statements_parts c.args.levels ++ (want.word words.End ∷ s))))) c.in_err-step.ensures)
-
-pub counted-returns-in_err-body_word : goal.counted-returns-in_err-body_word
-counted-returns-in_err-body_word t c =
-    exits _ _ c.from_residual-in_err-body_word.result c.in_err-body_word.field-0.0 c.from_residual-in_err-body_word.ensures.1
-    (via (want.word words.Do ∷ []) ((want.statement (suc c.args.levels)) ∷ []) _ (word_token words.For c.args.span ∷ c.args.given.now) _ (λ s. (statements_parts c.args.levels ++ (want.word words.End ∷ s))) (λ s. entered (want.statement (suc c.args.levels)) (want.ident ∷ (want.symbol symbols.Becomes ∷ (expr_parts c.args.levels ++ (want.word words.To ∷ (expr_parts c.args.levels ++ (want.some_step c.args.levels ∷ (want.word words.Do ∷ (statements_parts c.args.levels ++ (want.word words.End ∷ []))))))))) s _ _ _ refl refl ∙ after_ident (want.symbol symbols.Becomes ∷ (expr_parts c.args.levels ++ (want.word words.To ∷ (expr_parts c.args.levels ++ (want.some_step c.args.levels ∷ (want.word words.Do ∷ (statements_parts c.args.levels ++ (want.word words.End ∷ s)))))))) c.in_ok-variable.ensures ∙ after_symbol symbols.Becomes (expr_parts c.args.levels ++ (want.word words.To ∷ (expr_parts c.args.levels ++ (want.some_step c.args.levels ∷ (want.word words.Do ∷ (statements_parts c.args.levels ++ (want.word words.End ∷ s))))))) c.in_ok-becomes.ensures ∙ c.in_ok-from.ensures.moves (want.word words.To ∷ (expr_parts c.args.levels ++ (want.some_step c.args.levels ∷ (want.word words.Do ∷ (statements_parts c.args.levels ++ (want.word words.End ∷ s)))))) ∙ after_word words.To (expr_parts c.args.levels ++ (want.some_step c.args.levels ∷ (want.word words.Do ∷ (statements_parts c.args.levels ++ (want.word words.End ∷ s))))) c.in_ok-to_word.ensures ∙ c.in_ok-limit.ensures.moves (want.some_step c.args.levels ∷ (want.word words.Do ∷ (statements_parts c.args.levels ++ (want.word words.End ∷ s)))) ∙ c.in_ok-step.ensures.moves (want.word words.Do ∷ (statements_parts c.args.levels ++ (want.word words.End ∷ s)))) c.in_err-body_word.ensures)
-
-pub counted-returns-in_err-body : goal.counted-returns-in_err-body
-counted-returns-in_err-body t c =
-    exits _ _ c.from_residual-in_err-body.result c.in_err-body.field-0.0 c.from_residual-in_err-body.ensures.1
-    (via (statements_parts c.args.levels ++ []) ((want.statement (suc c.args.levels)) ∷ []) _ (word_token words.For c.args.span ∷ c.args.given.now) _ (λ s. (want.word words.End ∷ s)) (λ s. entered (want.statement (suc c.args.levels)) (want.ident ∷ (want.symbol symbols.Becomes ∷ (expr_parts c.args.levels ++ (want.word words.To ∷ (expr_parts c.args.levels ++ (want.some_step c.args.levels ∷ (want.word words.Do ∷ (statements_parts c.args.levels ++ (want.word words.End ∷ []))))))))) s _ _ _ refl refl ∙ after_ident (want.symbol symbols.Becomes ∷ (expr_parts c.args.levels ++ (want.word words.To ∷ (expr_parts c.args.levels ++ (want.some_step c.args.levels ∷ (want.word words.Do ∷ (statements_parts c.args.levels ++ (want.word words.End ∷ s)))))))) c.in_ok-variable.ensures ∙ after_symbol symbols.Becomes (expr_parts c.args.levels ++ (want.word words.To ∷ (expr_parts c.args.levels ++ (want.some_step c.args.levels ∷ (want.word words.Do ∷ (statements_parts c.args.levels ++ (want.word words.End ∷ s))))))) c.in_ok-becomes.ensures ∙ c.in_ok-from.ensures.moves (want.word words.To ∷ (expr_parts c.args.levels ++ (want.some_step c.args.levels ∷ (want.word words.Do ∷ (statements_parts c.args.levels ++ (want.word words.End ∷ s)))))) ∙ after_word words.To (expr_parts c.args.levels ++ (want.some_step c.args.levels ∷ (want.word words.Do ∷ (statements_parts c.args.levels ++ (want.word words.End ∷ s))))) c.in_ok-to_word.ensures ∙ c.in_ok-limit.ensures.moves (want.some_step c.args.levels ∷ (want.word words.Do ∷ (statements_parts c.args.levels ++ (want.word words.End ∷ s)))) ∙ c.in_ok-step.ensures.moves (want.word words.Do ∷ (statements_parts c.args.levels ++ (want.word words.End ∷ s))) ∙ after_word words.Do (statements_parts c.args.levels ++ (want.word words.End ∷ s)) c.in_ok-body_word.ensures) c.in_err-body.ensures)
-
-pub counted-returns-in_err-end : goal.counted-returns-in_err-end
-counted-returns-in_err-end t c =
-    exits _ _ c.from_residual-in_err-end.result c.in_err-end.field-0.0 c.from_residual-in_err-end.ensures.1
-    (via (want.word words.End ∷ []) ((want.statement (suc c.args.levels)) ∷ []) _ (word_token words.For c.args.span ∷ c.args.given.now) _ (λ s. s) (λ s. entered (want.statement (suc c.args.levels)) (want.ident ∷ (want.symbol symbols.Becomes ∷ (expr_parts c.args.levels ++ (want.word words.To ∷ (expr_parts c.args.levels ++ (want.some_step c.args.levels ∷ (want.word words.Do ∷ (statements_parts c.args.levels ++ (want.word words.End ∷ []))))))))) s _ _ _ refl refl ∙ after_ident (want.symbol symbols.Becomes ∷ (expr_parts c.args.levels ++ (want.word words.To ∷ (expr_parts c.args.levels ++ (want.some_step c.args.levels ∷ (want.word words.Do ∷ (statements_parts c.args.levels ++ (want.word words.End ∷ s)))))))) c.in_ok-variable.ensures ∙ after_symbol symbols.Becomes (expr_parts c.args.levels ++ (want.word words.To ∷ (expr_parts c.args.levels ++ (want.some_step c.args.levels ∷ (want.word words.Do ∷ (statements_parts c.args.levels ++ (want.word words.End ∷ s))))))) c.in_ok-becomes.ensures ∙ c.in_ok-from.ensures.moves (want.word words.To ∷ (expr_parts c.args.levels ++ (want.some_step c.args.levels ∷ (want.word words.Do ∷ (statements_parts c.args.levels ++ (want.word words.End ∷ s)))))) ∙ after_word words.To (expr_parts c.args.levels ++ (want.some_step c.args.levels ∷ (want.word words.Do ∷ (statements_parts c.args.levels ++ (want.word words.End ∷ s))))) c.in_ok-to_word.ensures ∙ c.in_ok-limit.ensures.moves (want.some_step c.args.levels ∷ (want.word words.Do ∷ (statements_parts c.args.levels ++ (want.word words.End ∷ s)))) ∙ c.in_ok-step.ensures.moves (want.word words.Do ∷ (statements_parts c.args.levels ++ (want.word words.End ∷ s))) ∙ after_word words.Do (statements_parts c.args.levels ++ (want.word words.End ∷ s)) c.in_ok-body_word.ensures ∙ c.in_ok-body.ensures.moves (want.word words.End ∷ s)) c.in_err-end.ensures)
+pub counted-returns-in_err-parts : goal.counted-returns-in_err-parts
+counted-returns-in_err-parts t c =
+    let l = rw c.in_ok-limits.ensures.0 at c.limits.ensures in
+    exits _ _ c.from_residual-in_err-parts.result c.in_err-parts.field-0.0 c.from_residual-in_err-parts.ensures.1
+    (via (want.word words.Do ∷ statements_parts c.args.levels ++ want.word words.End ∷ []) (want.statement (suc c.args.levels) ∷ []) _ (word_token words.For c.args.span ∷ c.args.given.now) _ (λ s. s) (λ s. entered (want.statement (suc c.args.levels)) (want.ident ∷ want.symbol symbols.Becomes ∷ expr_parts c.args.levels ++ want.word words.To ∷ expr_parts c.args.levels ++ want.some_step c.args.levels ∷ want.word words.Do ∷ statements_parts c.args.levels ++ want.word words.End ∷ []) s _ _ _ refl refl ∙ c.in_ok-start.ensures.moves (want.word words.To ∷ expr_parts c.args.levels ++ want.some_step c.args.levels ∷ want.word words.Do ∷ statements_parts c.args.levels ++ want.word words.End ∷ s) ∙ l.moves (want.word words.Do ∷ statements_parts c.args.levels ++ want.word words.End ∷ s)) (rw c.in_err-parts.ensures at c.counted_body.ensures))
 
 pub counted-returns : goal.counted-returns
 counted-returns t c =
-    rw (c.in_ok-boxed.ensures.ok, for_made _ _ _ _ _ _ _ _ _ _) (record {
-      spelled = onto refl (onto c.in_ok-variable.ensures (onto c.in_ok-becomes.ensures (behind c.in_ok-from.ensures (onto c.in_ok-to_word.ensures (behind c.in_ok-limit.ensures (behind c.in_ok-step.ensures (onto c.in_ok-body_word.ensures (behind c.in_ok-body.ensures (onto c.in_ok-end.ensures refl)))))))));
-      moves = λ s. entered (want.statement (suc c.args.levels)) (want.ident ∷ (want.symbol symbols.Becomes ∷ (expr_parts c.args.levels ++ (want.word words.To ∷ (expr_parts c.args.levels ++ (want.some_step c.args.levels ∷ (want.word words.Do ∷ (statements_parts c.args.levels ++ (want.word words.End ∷ []))))))))) s _ _ _ refl refl ∙ after_ident (want.symbol symbols.Becomes ∷ (expr_parts c.args.levels ++ (want.word words.To ∷ (expr_parts c.args.levels ++ (want.some_step c.args.levels ∷ (want.word words.Do ∷ (statements_parts c.args.levels ++ (want.word words.End ∷ s)))))))) c.in_ok-variable.ensures ∙ after_symbol symbols.Becomes (expr_parts c.args.levels ++ (want.word words.To ∷ (expr_parts c.args.levels ++ (want.some_step c.args.levels ∷ (want.word words.Do ∷ (statements_parts c.args.levels ++ (want.word words.End ∷ s))))))) c.in_ok-becomes.ensures ∙ c.in_ok-from.ensures.moves (want.word words.To ∷ (expr_parts c.args.levels ++ (want.some_step c.args.levels ∷ (want.word words.Do ∷ (statements_parts c.args.levels ++ (want.word words.End ∷ s)))))) ∙ after_word words.To (expr_parts c.args.levels ++ (want.some_step c.args.levels ∷ (want.word words.Do ∷ (statements_parts c.args.levels ++ (want.word words.End ∷ s))))) c.in_ok-to_word.ensures ∙ c.in_ok-limit.ensures.moves (want.some_step c.args.levels ∷ (want.word words.Do ∷ (statements_parts c.args.levels ++ (want.word words.End ∷ s)))) ∙ c.in_ok-step.ensures.moves (want.word words.Do ∷ (statements_parts c.args.levels ++ (want.word words.End ∷ s))) ∙ after_word words.Do (statements_parts c.args.levels ++ (want.word words.End ∷ s)) c.in_ok-body_word.ensures ∙ c.in_ok-body.ensures.moves (want.word words.End ∷ s) ∙ after_word words.End s c.in_ok-end.ensures;
-      within = omega (arith, c.in_ok-from.ensures.within, c.in_ok-limit.ensures.within, c.in_ok-step.ensures.within, c.in_ok-body.ensures.within);
-      shorter = omega (arith, fewer c.in_ok-variable.ensures, fewer c.in_ok-becomes.ensures, c.in_ok-from.ensures.shorter, fewer c.in_ok-to_word.ensures, c.in_ok-limit.ensures.shorter, c.in_ok-step.ensures.shorter, fewer c.in_ok-body_word.ensures, c.in_ok-body.ensures.shorter, fewer c.in_ok-end.ensures);
+    let l = rw c.in_ok-limits.ensures.0 at c.limits.ensures in
+    let b = rw c.in_ok-parts.ensures.0 at c.counted_body.ensures in
+    rw (c.in_ok-boxed.ensures.ok, c.in_ok-parts.ensures.1, c.in_ok-limits.ensures.1, for_made _ _ _ _ _ _ _ _ _ _) (record {
+      spelled = onto refl (behind c.in_ok-start.ensures (behind l (behind b refl)));
+      moves = λ s. entered (want.statement (suc c.args.levels)) (want.ident ∷ want.symbol symbols.Becomes ∷ expr_parts c.args.levels ++ want.word words.To ∷ expr_parts c.args.levels ++ want.some_step c.args.levels ∷ want.word words.Do ∷ statements_parts c.args.levels ++ want.word words.End ∷ []) s _ _ _ refl refl ∙ c.in_ok-start.ensures.moves (want.word words.To ∷ expr_parts c.args.levels ++ want.some_step c.args.levels ∷ want.word words.Do ∷ statements_parts c.args.levels ++ want.word words.End ∷ s) ∙ l.moves (want.word words.Do ∷ statements_parts c.args.levels ++ want.word words.End ∷ s) ∙ b.moves s;
+      within = omega (arith, c.in_ok-start.ensures.within, l.within, b.within);
+      shorter = omega (arith, c.in_ok-start.ensures.shorter, l.shorter, b.shorter);
     })
+
+pub counted_body-returns-in_err-word : goal.counted_body-returns-in_err-word
+counted_body-returns-in_err-word t c =
+    exits _ _ c.from_residual.result c.in_err-word.field-0.0 c.from_residual.ensures.1
+    (via (want.word words.Do ∷ []) (want.word words.Do ∷ statements_parts c.args.levels ++ want.word words.End ∷ []) _ (c.args.given.now) _ (λ s. statements_parts c.args.levels ++ want.word words.End ∷ s) (λ s. refl) c.in_err-word.ensures)
+
+pub counted_body-returns-in_err-body : goal.counted_body-returns-in_err-body
+counted_body-returns-in_err-body t c =
+    exits _ _ c.from_residual-in_err-body.result c.in_err-body.field-0.0 c.from_residual-in_err-body.ensures.1
+    (via (statements_parts c.args.levels) (want.word words.Do ∷ statements_parts c.args.levels ++ want.word words.End ∷ []) _ (c.args.given.now) _ (λ s. want.word words.End ∷ s) (λ s. after_word words.Do (statements_parts c.args.levels ++ want.word words.End ∷ s) c.in_ok-word.ensures) c.in_err-body.ensures)
+
+pub counted_body-returns-in_err-end : goal.counted_body-returns-in_err-end
+counted_body-returns-in_err-end t c =
+    exits _ _ c.from_residual-in_err-end.result c.in_err-end.field-0.0 c.from_residual-in_err-end.ensures.1
+    (via (want.word words.End ∷ []) (want.word words.Do ∷ statements_parts c.args.levels ++ want.word words.End ∷ []) _ (c.args.given.now) _ (λ s. s) (λ s. after_word words.Do (statements_parts c.args.levels ++ want.word words.End ∷ s) c.in_ok-word.ensures ∙ c.in_ok-body.ensures.moves (want.word words.End ∷ s)) (rw c.in_err-end.ensures at c.need_word-2.ensures))
+
+pub counted_body-returns : goal.counted_body-returns
+counted_body-returns t c =
+    let w = rw c.in_ok-end.ensures.0 at c.need_word-2.ensures in
+    rw (c.in_ok-end.ensures.1) (record {
+      spelled = onto c.in_ok-word.ensures (behind c.in_ok-body.ensures (onto w refl));
+      moves = λ s. after_word words.Do (statements_parts c.args.levels ++ want.word words.End ∷ s) c.in_ok-word.ensures ∙ c.in_ok-body.ensures.moves (want.word words.End ∷ s) ∙ after_word words.End s w;
+      within = omega (arith, c.in_ok-body.ensures.within);
+      shorter = omega (arith, fewer c.in_ok-word.ensures, c.in_ok-body.ensures.shorter, fewer w);
+    })
+
+pub statements-statement-requires : goal.statements-statement-requires
+statements-statement-requires t c = omega arith
+
+pub statements-more_statements-requires : goal.statements-more_statements-requires
+statements-more_statements-requires t c = omega (arith, c.in_ok-first.ensures.shorter)
+
+pub more_statements-statement-requires : goal.more_statements-statement-requires
+more_statements-statement-requires t c = omega (arith, c.loop-semicolon.invariant.shorter, fewer c.in-Some.ensures.some)
+
+pub statement-conditional-requires : goal.statement-conditional-requires
+statement-conditional-requires t c = omega (arith, fewer c.in-Some-word.ensures.some)
+
+pub statement-choice-requires : goal.statement-choice-requires
+statement-choice-requires t c = omega (arith, fewer c.in-Some-word-2.ensures.some)
+
+pub statement-repetition-requires : goal.statement-repetition-requires
+statement-repetition-requires t c = omega (arith, fewer c.in-Some-word-3.ensures.some)
+
+pub statement-repeat-requires : goal.statement-repeat-requires
+statement-repeat-requires t c = omega (arith, fewer c.in-Some-word-4.ensures.some)
+
+pub statement-counted-requires : goal.statement-counted-requires
+statement-counted-requires t c = omega (arith, fewer c.in-Some-word-5.ensures.some)
+
+pub guarded-statements-requires : goal.guarded-statements-requires
+guarded-statements-requires t c = let h = rw c.in_ok-span.ensures.0 at c.need_word.ensures in omega (arith, c.in_ok-condition.ensures.shorter, fewer h)
+
+pub elsifs-guarded-requires : goal.elsifs-guarded-requires
+elsifs-guarded-requires t c = omega (arith, c.loop-span.invariant.shorter, fewer c.in-Some.ensures.some)
+
+pub branches-guarded-requires : goal.branches-guarded-requires
+branches-guarded-requires t c = omega arith
+
+pub branches-elsifs-requires : goal.branches-elsifs-requires
+branches-elsifs-requires t c = omega (arith, c.in_ok-first.ensures.shorter)
+
+pub otherwise-statements-requires : goal.otherwise-statements-requires
+otherwise-statements-requires t c = omega (arith, fewer c.in-Some.ensures.some)
+
+pub conditional-branches-requires : goal.conditional-branches-requires
+conditional-branches-requires t c = omega arith
+
+pub conditional-otherwise-requires : goal.conditional-otherwise-requires
+conditional-otherwise-requires t c = omega (arith, c.in_ok-parts.ensures.shorter)
+
+pub choice-arms-requires : goal.choice-arms-requires
+choice-arms-requires t c = omega (arith, c.in_ok-value.ensures.shorter)
+
+pub arms-arm-requires : goal.arms-arm-requires
+arms-arm-requires t c = omega (arith, fewer c.in_ok-of.ensures)
+
+pub arms-more_arms-requires : goal.arms-more_arms-requires
+arms-more_arms-requires t c = omega (arith, fewer c.in_ok-of.ensures, c.in_ok-first.ensures.shorter)
+
+pub arm-statements-requires : goal.arm-statements-requires
+arm-statements-requires t c = let h = rw c.in-Some.is at c.in_ok-first.ensures in omega (arith, h.shorter, c.in_ok-labels.ensures.0.shorter)
+
+pub more_arms-arm-requires : goal.more_arms-arm-requires
+more_arms-arm-requires t c = omega (arith, c.loop-bar.invariant.shorter, fewer c.in-Some.ensures.some)
+
+pub repetition-branches-requires : goal.repetition-branches-requires
+repetition-branches-requires t c = omega arith
+
+pub repeat-statements-requires : goal.repeat-statements-requires
+repeat-statements-requires t c = omega arith
+
+pub counted-counted_body-requires : goal.counted-counted_body-requires
+counted-counted_body-requires t c = let h = rw c.in_ok-limits.ensures.0 at c.limits.ensures in omega (arith, c.in_ok-start.ensures.shorter, h.shorter)
+
+pub counted_body-statements-requires : goal.counted_body-statements-requires
+counted_body-statements-requires t c = omega (arith, fewer c.in_ok-word.ensures)
+
+pub more_statements-loop-semicolon-smaller : goal.more_statements-loop-semicolon-smaller
+more_statements-loop-semicolon-smaller t c = omega (arith, fewer c.in-Some.ensures.some, c.in_ok-statement.ensures.shorter)
+
+pub elsifs-loop-span-smaller : goal.elsifs-loop-span-smaller
+elsifs-loop-span-smaller t c = omega (arith, fewer c.in-Some.ensures.some, c.in_ok-parts.ensures.shorter)
+
+pub more_arms-loop-bar-smaller : goal.more_arms-loop-bar-smaller
+more_arms-loop-bar-smaller t c = omega (arith, fewer c.in-Some.ensures.some, c.in_ok-arm.ensures.shorter)

@@ -21,6 +21,9 @@ decreases-guarded l = 16 * length l.given.now + 6
 abbrev pub decreases-elsifs : goal.decreases-elsifs
 decreases-elsifs l = 16 * length l.given.now + 1
 
+abbrev pub decreases-branches : goal.decreases-branches
+decreases-branches l = 16 * length l.given.now + 7
+
 abbrev pub decreases-otherwise : goal.decreases-otherwise
 decreases-otherwise l = 16 * length l.given.now + 1
 
@@ -29,6 +32,9 @@ decreases-conditional l = 16 * length l.given.now + 8
 
 abbrev pub decreases-choice : goal.decreases-choice
 decreases-choice l = 16 * length l.given.now + 8
+
+abbrev pub decreases-arms : goal.decreases-arms
+decreases-arms l = 16 * length l.given.now + 7
 
 abbrev pub decreases-arm : goal.decreases-arm
 decreases-arm l = 16 * length l.given.now + 2
@@ -44,6 +50,9 @@ decreases-repeat l = 16 * length l.given.now + 8
 
 abbrev pub decreases-counted : goal.decreases-counted
 decreases-counted l = 16 * length l.given.now + 8
+
+abbrev pub decreases-counted_body : goal.decreases-counted_body
+decreases-counted_body l = 16 * length l.given.now + 7
 
 abbrev pub invariant-more_statements-loop-semicolon : goal.invariant-more_statements-loop-semicolon
 invariant-more_statements-loop-semicolon l =
