@@ -1,0 +1,12 @@
+pub mod LeadsLaws
+pub mod Counting
+pub mod GetsThrough
+pub mod TurnedLaws
+pub mod InMemory
+pub mod WalkLaws
+pub mod CycleLaws
+pub mod QueueLaws
+pub mod WaitLaws
+pub mod FrontLaws
+pub mod FrontSteps
+pub mod PlanLaws

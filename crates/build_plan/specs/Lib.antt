@@ -1,0 +1,9 @@
+pub mod Rows
+pub mod Places
+pub mod Lists
+pub mod Links
+pub mod Walk
+pub mod Cycles
+pub mod Front
+pub mod Kept
+pub mod Plan
