@@ -1,0 +1,9 @@
+use Rattle.std.proofs.Common.{◌≤◌, length}
+use Rattle.plan_tests.specs.Run.{IsRun}
+use Rattle.plan_tests.proofs.run.give.Given as goal
+
+abbrev pub invariant-loop : goal.invariant-loop
+invariant-loop l = record {
+  run : IsRun l.plan l.order.items l.finished;
+  finished : l.finished ≤ length l.order.items;
+}
