@@ -44,9 +44,9 @@ impl Front {
         ensures { IfOk result (λ front. front ≡ first_stand links spared.items) }
     {
         let places = links.len();
-        let waiting = waits(alloc, links.imports(), spared.as_slice())?;
+        let waiting = all_waits(alloc, links.imports(), spared.as_slice())?;
         let mut ready = BinaryHeap::with_capacity(alloc, places)?;
-        queue(waiting.as_slice(), &mut ready);
+        put_free(waiting.as_slice(), &mut ready);
         Ok(Front {
             links,
             spared,
@@ -126,7 +126,8 @@ impl Front {
     }
 }
 
-fn waits(alloc: Global, rows: &[Vec<u32>], spared: &[bool]) -> Result<Vec<usize>, NoMemory>
+// For how many each place waits at first.
+fn all_waits(alloc: Global, rows: &[Vec<u32>], spared: &[bool]) -> Result<Vec<usize>, NoMemory>
     requires within { AreWithin (lists_of rows.now) }
     requires size { length spared.now ≡ length rows.now }
     ensures size { IfOk result (λ waiting. length waiting.items ≡ length rows.now) }
@@ -153,7 +154,7 @@ fn count_awaited(row: &[u32], spared: &[bool]) -> usize
 }
 
 // Puts the places that wait for none into an empty heap.
-fn queue(waiting: &[usize], ready: &mut BinaryHeap<Reverse<u32>>)
+fn put_free(waiting: &[usize], ready: &mut BinaryHeap<Reverse<u32>>)
     requires few { length waiting.now < 2 ^ 32 }
     requires empty { heap_items ready.old ≡ [] }
     requires ordered { IsHeap (λ x y. nat_cmp y.0 x.0) (heap_items ready.old) }

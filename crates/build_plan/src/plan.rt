@@ -30,8 +30,9 @@ impl Model for Plan {
 }
 
 impl Plan {
-    /// A plan of places by their imports. Takes time that is linear in places and imports where none is on a cycle, and
-    /// one search more for each place between two cycles and for each group of places that lead to each other.
+    /// A plan of places by their imports. Takes time that is linear in places and imports, but for the least of the
+    /// ready ones, where no place is on a cycle. Else it takes one search more for each group of places that lead to
+    /// each other, and for each place that leads to a cycle and is on none.
     pub fn new(alloc: Global, imports: Vec<Vec<u32>>) -> Result<Plan, NoMemory>
         requires within { AreWithin (lists imports) }
         requires few { length imports.items < 2 ^ 32 }
@@ -77,7 +78,7 @@ impl Plan {
         self.front.is_done()
     }
 
-    /// A place that was given has only imports that are finished or on a cycle.
+    /// A law: a place that was given has only imports that are finished or on a cycle.
     pub fn given_are_clear(&self)
         ensures { All (IsClear self.now) self.now.given }
     {

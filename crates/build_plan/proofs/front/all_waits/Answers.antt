@@ -1,6 +1,6 @@
 use Rattle.std.proofs.Common.{◌<◌, ℕ, List, length, All, sym, subst}
 use Rattle.build_plan.proofs.InMemory.{inside_row}
-use Rattle.build_plan.proofs.front.waits.Goals as goal
+use Rattle.build_plan.proofs.front.all_waits.Goals as goal
 
 pub count_awaited-requires : goal.count_awaited-requires
 count_awaited-requires c =

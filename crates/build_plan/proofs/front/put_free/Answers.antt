@@ -2,8 +2,8 @@ use Rattle.std.proofs.Common.{◌+◌, ℕ, Global, sym, subst, arith}
 use Rattle.std.specs.declared.cmp.Reverse.{Reverse}
 use Rattle.std.specs.declared.collections.BinaryHeap.{BinaryHeap}
 use Rattle.build_plan.proofs.QueueLaws.{IsQueuedTo, queued_none, queued_yes, queued_no, queued_whole, queue_all}
-use Rattle.build_plan.proofs.front.queue.Goals as goal
-use Rattle.build_plan.proofs.front.queue.Goals.{then-waiting-place-eq0, else-waiting-place-eq0}
+use Rattle.build_plan.proofs.front.put_free.Goals as goal
+use Rattle.build_plan.proofs.front.put_free.Goals.{then-waiting-place-eq0, else-waiting-place-eq0}
 
 pub loop-place-init : goal.loop-place-init
 loop-place-init c = queued_none c.args.waiting.now c.args.ready.now c.requires.empty c.requires.ordered c.requires.room

@@ -2,7 +2,7 @@ use Rattle.std.proofs.Common.{◌≡◌, ◌<◌, ℕ, [], length}
 use Rattle.std.specs.List.{slice_index}
 use Rattle.build_plan.specs.Lists.{lists_of}
 use Rattle.build_plan.specs.Front.{waits}
-use Rattle.build_plan.proofs.front.waits.Given as goal
+use Rattle.build_plan.proofs.front.all_waits.Given as goal
 
 abbrev pub invariant-loop-row : goal.invariant-loop-row
 invariant-loop-row l = record {
