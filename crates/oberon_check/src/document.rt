@@ -54,9 +54,23 @@ fn diagnose_tokens(
 {
     match parse(alloc, tokens) {
         Ok(_) => Ok(Vec::new(alloc)),
-        Err(ParseRefusal::FirstBad(index)) => one(alloc, bad_token(text, bad_span(tokens, index))),
+        Err(ParseRefusal::FirstBad(index)) => list_of_bad_token(alloc, text, tokens, index),
         Err(ParseRefusal::NoMemory) => Err(NoMemory),
     }
+}
+
+/// The list of a text without lexical faults that is no module: its first bad token, which stands at this
+/// index, alone.
+pub fn list_of_bad_token(
+    alloc: Global,
+    text: &[u8],
+    tokens: &[Token],
+    index: usize,
+) -> Result<Vec<Diagnostic>, NoMemory>
+    requires { Lex text.now tokens.now [] }
+    ensures { IfOk result (λ list. list.items ≡ bad_token text.now (bad_span tokens.now index) ∷ []) }
+{
+    one(alloc, bad_token(text, bad_span(tokens, index)))
 }
 
 /// Where a first bad token is shown: at the token, or at the end where all tokens begin a module and are

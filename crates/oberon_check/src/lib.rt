@@ -6,4 +6,4 @@
 
 mod document;
 
-pub use document::diagnose;
+pub use document::{diagnose, list_of_bad_token};

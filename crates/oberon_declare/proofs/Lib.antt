@@ -1,6 +1,4 @@
 pub mod ArrayLaws
-pub mod FoldingLaws
-pub mod FoldingMemory
 pub mod HeadingLaws
 pub mod ListLaws
 pub mod OriginLaws

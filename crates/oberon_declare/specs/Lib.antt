@@ -1,5 +1,4 @@
 pub mod Arrays
-pub mod Foldings
 pub mod Headings
 pub mod Levels
 pub mod Origins

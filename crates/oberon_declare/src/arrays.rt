@@ -11,8 +11,8 @@ ghost use Rattle.oberon_rules.specs.Operators.{is_bad};
 ghost use Rattle.oberon_rules.specs.Expressions.{or_unknown};
 ghost use Rattle.oberon_declare.specs.Arrays.{lengths_of, lengths_say, arrays_is, arrays_row};
 
-use crate::values::length;
 use ob_text::{Code, Name, NoMemory, Span};
+use oberon_constants::length;
 use oberon_infer::{Said, Scopes, add_row};
 use oberon_tree::Exprs;
 use oberon_types::{Ty, array_type};

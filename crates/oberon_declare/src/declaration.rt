@@ -13,8 +13,8 @@ use crate::declaring::{
     declare_locals, declare_new, declare_variables, first_new, first_new_ident,
 };
 use crate::types::declared_type;
-use crate::values::constant;
 use ob_text::{Code, Name, NoMemory};
+use oberon_constants::constant;
 use oberon_infer::{Binding, Meaning, Said, Scopes, add_named};
 use oberon_tree::{
     Constants, Declarations, Expr, Ident, LocalConstants, LocalVariable, LocalVariables, Type,

@@ -6,6 +6,7 @@ pub mod JudgeLaws
 pub mod ListedRows
 pub mod NumberLaws
 pub mod PlaceLaws
+pub mod ReadingLaws
 pub mod RowLaws
 pub mod RowLists
 pub mod RowOrder

@@ -1,6 +1,7 @@
 pub mod Checked
 pub mod Exported
 pub mod Numbers
+pub mod Reading
 pub mod Rows
 pub mod Sorted
 pub mod Sweeps

@@ -1,30 +1,25 @@
 ghost use Rattle.std.specs.Prelude.{◌≡◌, false, if◌then◌else◌, List, [], map, IfOk};
 ghost use Rattle.ob_text.specs.Held.{IsReadable};
-ghost use Rattle.ob_text.specs.declared.diagnostic.Diagnostic.{Diagnostic as Found};
-ghost use Rattle.ob_text.specs.declared.held.Held.TheVariants as helds;
-ghost use Rattle.oberon_check.specs.Diagnosed.{Diagnosed};
-ghost use Rattle.oberon_scan.specs.Lexis.{Lex};
 ghost use Rattle.oberon_tree.specs.Memory.{tree_of};
 ghost use Rattle.oberon_types.specs.Entities.{broken_view, exports_view};
 ghost use Rattle.oberon_types.specs.Memory.{plain_view};
 ghost use Rattle.oberon_rules.specs.Judged.{has_error};
-ghost use Rattle.oberon_rules.specs.Local.{LocalDeclarations, TextLocal, IsTreeless, view_in};
+ghost use Rattle.oberon_rules.specs.Local.{LocalDeclarations, IsTreeless, view_in};
 ghost use Rattle.oberon_rules.specs.Views.{written, map_view, exported_in};
 ghost use Rattle.oberon_infer.specs.Memory.{plain_said, plain_scope};
 ghost use Rattle.oberon_module.specs.Checked.{IsChecked, says_error};
+ghost use Rattle.oberon_module.specs.Reading.{IsRead};
 ghost use Rattle.oberon_module.specs.Views.{plain_views};
 
 use crate::exports::{exports, is_too_large};
 use crate::importing::Views;
 use crate::judging::judge;
 use crate::listing::listed;
+use crate::reading::{Reading, read_tokens, read_tree, text_of};
 use indexmap::IndexMap;
 use ob_text::{Code, Diagnostic, Held, Name, NoMemory, Severity};
-use oberon_check::diagnose;
 use oberon_imports::imports_of;
 use oberon_infer::{Said, Scope, add_row};
-use oberon_parse::{ParseRefusal, parse};
-use oberon_scan::{Scanned, Token, scan};
 use oberon_tree::Tree;
 use oberon_types::View;
 use std::alloc::Global;
@@ -51,66 +46,39 @@ pub fn check_module(
     requires { IsReadable held.now }
     ensures { IfOk result (λ c. LocalDeclarations held.now stem.now (view_in (plain_views views.now.entries)) c.list.items c.imports.items (plain_view c.view)) }
 {
-    match held {
-        Held::Text(text) => check_text(alloc, stem, held, text.as_slice(), views),
-        Held::Absent => without_tree(alloc, held),
-        Held::TooLarge => without_tree(alloc, held),
-        Held::NotText => without_tree(alloc, held),
-    }
+    let tokens = read_tokens(alloc, held)?;
+    let reading = read_tree(alloc, held, tokens)?;
+    check_read(alloc, stem, held, reading, views)
 }
 
-fn check_text(
+/// Checks a document that was read as far as its tree.
+pub fn check_read(
     alloc: Global,
     stem: &Name,
     held: &Held,
-    text: &[u8],
+    reading: Reading,
     views: &IndexMap<Name, View>,
 ) -> Result<Checked, NoMemory>
-    requires readable { IsReadable held.now }
-    requires held { held.now ≡ helds.Text text.now }
-    ensures { IfOk result (λ c. TextLocal false text.now stem.now (view_in (plain_views views.now.entries)) c.list.items c.imports.items (plain_view c.view)) }
+    requires { IsRead held.now reading }
+    ensures { IfOk result (λ c. LocalDeclarations held.now stem.now (view_in (plain_views views.now.entries)) c.list.items c.imports.items (plain_view c.view)) }
 {
-    let Scanned { tokens, faults } = scan(alloc, text)?;
-    if faults.is_empty() {
-        check_tokens(alloc, stem, held, text, tokens.as_slice(), views)
-    } else {
-        without_tree(alloc, held)
-    }
-}
-
-/// Checks a text without lexical faults, by its tokens.
-fn check_tokens(
-    alloc: Global,
-    stem: &Name,
-    held: &Held,
-    text: &[u8],
-    tokens: &[Token],
-    views: &IndexMap<Name, View>,
-) -> Result<Checked, NoMemory>
-    requires readable { IsReadable held.now }
-    requires held { held.now ≡ helds.Text text.now }
-    requires lexis { Lex text.now tokens.now [] }
-    ensures { IfOk result (λ c. TextLocal false text.now stem.now (view_in (plain_views views.now.entries)) c.list.items c.imports.items (plain_view c.view)) }
-{
-    match parse(alloc, tokens) {
-        Ok(tree) => check_tree(alloc, stem, text, &tree, views),
-        Err(ParseRefusal::FirstBad(_)) => without_tree(alloc, held),
-        Err(ParseRefusal::NoMemory) => Err(NoMemory),
+    match reading {
+        Reading::Parsed(tree) => check_tree(alloc, stem, text_of(held), &tree, views),
+        Reading::Listed(list) => Ok(without_tree(alloc, list)),
+        Reading::Scanned(_) => unreachable!(),
     }
 }
 
 /// What has no tree imports nothing, and is broken.
-fn without_tree(alloc: Global, held: &Held) -> Result<Checked, NoMemory>
-    requires { IsReadable held.now }
-    ensures treeless { IfOk result (λ c. IsTreeless c.imports.items (plain_view c.view)) }
-    ensures diagnosed { IfOk result (λ c. Diagnosed held.now c.list.items) }
-    ensures only { IfOk result (λ c. (other : List Found) → Diagnosed held.now other → other ≡ c.list.items) }
+fn without_tree(alloc: Global, list: Vec<Diagnostic>) -> Checked
+    ensures listed { result.list ≡ list }
+    ensures treeless { IsTreeless result.imports.items (plain_view result.view) }
 {
-    Ok(Checked {
-        list: diagnose(alloc, held)?,
+    Checked {
+        list,
         imports: Vec::new(alloc),
         view: View::Broken,
-    })
+    }
 }
 
 /// Checks a module by its tree.

@@ -2,7 +2,8 @@
 //! from what is held at a document's path. Statements and RETURN aren't judged yet, nor whether an import is used.
 //!
 //! It stands on `oberon_declare` for declarations and on `oberon_check` for what has no tree; nothing of a workspace is
-//! known here. Begin reading at `Local.antt` of `oberon_rules`, which says what a check promises, and at `check.rt`.
+//! known here. Begin reading at `Local.antt` of `oberon_rules`, which says what a check promises, and at `check.rt`; a
+//! document is read once, and `reading.rt` has it as far as it was read.
 #![tactic(auto)]
 
 mod check;
@@ -12,6 +13,8 @@ mod judging;
 mod listing;
 mod numbers;
 mod places;
+mod reading;
 mod written;
 
-pub use check::{Checked, check_module};
+pub use check::{Checked, check_module, check_read};
+pub use reading::{Reading, read_tokens, read_tree};

@@ -12,5 +12,4 @@ pub mod Module
 pub mod Order
 pub mod Views
 pub mod Judged
-pub mod Documents
 pub mod Local

@@ -5,6 +5,7 @@ use Rattle.ob_text.specs.declared.code.Code.TheVariants as codes_of
 use Rattle.ob_text.specs.declared.diagnostic.Diagnostic.{Diagnostic}
 use Rattle.ob_text.specs.declared.held.Held.{Held}
 use Rattle.ob_text.specs.declared.held.Held.TheVariants.{Text, Absent, TooLarge, NotText}
+use Rattle.oberon_check.specs.Diagnosed.{no_document, HasBadToken}
 use Rattle.oberon_imports.specs.Imports.{imports_in}
 use Rattle.oberon_parse.specs.Sentence.{most_levels}
 use Rattle.oberon_scan.specs.Lexis.{Lex}
@@ -14,7 +15,6 @@ use Rattle.oberon_tree.specs.Print.{tokens_of}
 use Rattle.oberon_tree.specs.Trees.{ModuleTree}
 use Rattle.oberon_types.specs.Types.{same_name}
 use Rattle.oberon_types.specs.Entities.{ViewTree, missing_view, broken_view}
-use Rattle.oberon_rules.specs.Documents.{no_document, HasBadToken}
 use Rattle.oberon_rules.specs.Judged.{found, all_said, declared_view}
 use Rattle.oberon_rules.specs.Order.{IsListed}
 use Rattle.oberon_rules.specs.Views.{written, map_view}

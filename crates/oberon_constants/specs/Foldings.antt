@@ -1,5 +1,5 @@
 -- Constants in one pass: of each part of an expression, whether it is built of constants, and its value.
-use Rattle.std.specs.Prelude.{ℕ, Bool, true, false, ◌&&◌, if◌then◌else◌, Option, Some, None}
+use Rattle.std.specs.Prelude.{Bool, true, false, ◌&&◌, if◌then◌else◌, Option, Some, None}
 use Rattle.std.specs.Option.{is_some, option_and_then}
 use Rattle.oberon_tree.specs.declared.expression.Relator.{Relator}
 use Rattle.oberon_tree.specs.declared.expression.Relator.TheVariants as relators
@@ -9,12 +9,11 @@ use Rattle.oberon_types.specs.declared.constant.Op.{Op}
 use Rattle.oberon_types.specs.declared.constant.Op.TheVariants as ops
 use Rattle.oberon_types.specs.declared.constant.FoldingFunction.{FoldingFunction}
 use Rattle.oberon_types.specs.declared.value.Value.{Value}
-use Rattle.oberon_types.specs.declared.value.Value.TheVariants as values
 use Rattle.oberon_types.specs.Folding.{ConstTree, PartsTree, is_built, parts_built, value_of, value_op, binary_value, call_value, call_one, call_two, with_range, end_value, set_value, Folded, not_constant, in_range}
 use Rattle.oberon_rules.specs.Constants.{add_op, mul_op, sign_op, folds, expr_const, simple_const, term_const, factor_const}
 use Rattle.oberon_rules.specs.Scopes.{Meaning, constant_meaning, word_meaning, Scopes}
-use Rattle.oberon_declare.specs.declared.folding.Folding.{Folding}
-use Rattle.oberon_declare.specs.declared.folding.SetFolding.{SetFolding}
+use Rattle.oberon_constants.specs.declared.folding.Folding.{Folding}
+use Rattle.oberon_constants.specs.declared.folding.SetFolding.{SetFolding}
 
 -- ---- one part
 

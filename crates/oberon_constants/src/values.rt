@@ -4,7 +4,7 @@ ghost use Rattle.oberon_types.specs.Sizes.{is_length};
 ghost use Rattle.oberon_rules.specs.TypeRules.{constant_is, constant_says, value_folded, fold_row, length_meant, is_bad_length, length_says};
 ghost use Rattle.oberon_infer.specs.Memory.{plain_scopes};
 ghost use Rattle.oberon_infer.specs.Adds.{Adds};
-ghost use Rattle.oberon_declare.specs.Foldings.{outcome_of};
+ghost use Rattle.oberon_constants.specs.Foldings.{outcome_of};
 
 use crate::folding::{Folding, fold_expr};
 use ob_text::{Code, Name, NoMemory, Span};

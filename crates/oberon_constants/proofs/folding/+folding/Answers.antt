@@ -1,4 +1,4 @@
-use Rattle.std.specs.Prelude.{ℕ, ◌≡◌, true, List, Option, Some, None, IfOk}
+use Rattle.std.specs.Prelude.{◌≡◌, List, IfOk}
 use Rattle.std.proofs.Common.{sym, ◌∙◌, ap, subst}
 use Rattle.std.proofs.lemmas.List.{at_drop_all}
 use Rattle.oberon_tree.specs.declared.expression.Expr.{out-Expr}
@@ -12,17 +12,17 @@ use Rattle.oberon_tree.specs.declared.expression.Elements.{out-Elements}
 use Rattle.oberon_tree.specs.declared.expression.NextElement.{NextElement}
 use Rattle.oberon_tree.specs.declared.expression.Element.{out-Element}
 use Rattle.oberon_tree.specs.declared.expression.Exprs.{out-Exprs}
-use Rattle.oberon_tree.specs.Memory.{expr_tree, relation_tree, relation_option, simple_tree, term_tree, addends_list, multipliers_list, factor_tree, more_elements_list}
+use Rattle.oberon_tree.specs.Memory.{expr_tree, relation_tree, relation_option, simple_tree, addends_list, multipliers_list, factor_tree, more_elements_list}
 use Rattle.oberon_tree.specs.Trees.{FactorTree}
 use Rattle.oberon_tree.proofs.ExpressionMemory.{set_out, designator_held}
 use Rattle.oberon_types.specs.declared.constant.Op.TheVariants as ops
-use Rattle.oberon_rules.specs.Constants.{expr_const, simple_const, term_const, factor_const}
+use Rattle.oberon_rules.specs.Constants.{expr_const, simple_const, factor_const}
 use Rattle.oberon_infer.specs.Memory.{plain_scopes}
-use Rattle.oberon_declare.specs.declared.folding.Folding.{Folding}
-use Rattle.oberon_declare.specs.declared.folding.SetFolding.{SetFolding}
-use Rattle.oberon_declare.specs.Foldings.{folding_of, named_folding, unary_folding, relation_folding, related_folding, signed_folding, addends_folding, multipliers_folding, range_folding, set_folding, elements_folding, called_with_one, called_with_two, called_with_more}
-use Rattle.oberon_declare.proofs.FoldingMemory.{related_out, expr_folds, addend_loop, simple_folds, multiplier_loop, term_folds, element_loop, upper_step, only_step, elements_fold_to, bare_name, one_selector, more_selected, call_one_out, call_two_out, call_more_out, built_loop}
-use Rattle.oberon_declare.proofs.folding.+folding.Goals as goal
+use Rattle.oberon_constants.specs.declared.folding.Folding.{Folding}
+use Rattle.oberon_constants.specs.declared.folding.SetFolding.{SetFolding}
+use Rattle.oberon_constants.specs.Foldings.{folding_of, named_folding, unary_folding, relation_folding, related_folding, signed_folding, addends_folding, multipliers_folding, range_folding, set_folding, elements_folding, called_with_one, called_with_two, called_with_more}
+use Rattle.oberon_constants.proofs.FoldingMemory.{related_out, expr_folds, addend_loop, simple_folds, multiplier_loop, term_folds, element_loop, upper_step, only_step, elements_fold_to, bare_name, one_selector, more_selected, call_one_out, call_two_out, call_more_out, built_loop}
+use Rattle.oberon_constants.proofs.folding.+folding.Goals as goal
 
 pub fold_expr-returns-in-Some : goal.fold_expr-returns-in-Some
 fold_expr-returns-in-Some t c =

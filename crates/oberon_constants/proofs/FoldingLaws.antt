@@ -10,8 +10,8 @@ use Rattle.oberon_types.specs.Folding.{ConstTree, other_const, call_const, Parts
 use Rattle.oberon_rules.specs.Constants.{add_op, mul_op, meaning_const, word_const, signed_const, relation_between, relation_const, simple_const, addends_const, multipliers_const, term_const, factor_const, expr_const, more_elements_const, element_const}
 use Rattle.oberon_rules.specs.Scopes.{Meaning, unknown_meaning, constant_meaning, type_meaning, variable_meaning, procedure_meaning, word_meaning, import_meaning, Scopes}
 use Rattle.oberon_types.specs.declared.constant.FoldingFunction.{FoldingFunction}
-use Rattle.oberon_declare.specs.declared.folding.SetFolding.{SetFolding}
-use Rattle.oberon_declare.specs.Foldings.{folding_of, signed_folding, relation_folding, related_folding, addends_folding, multipliers_folding, no_folding, named_folding, is_folding, call_folding, called_with_one, called_with_two, called_with_more, range_folding, element_folding, elements_folding, set_folding}
+use Rattle.oberon_constants.specs.declared.folding.SetFolding.{SetFolding}
+use Rattle.oberon_constants.specs.Foldings.{folding_of, signed_folding, relation_folding, related_folding, addends_folding, multipliers_folding, no_folding, named_folding, is_folding, call_folding, called_with_one, called_with_two, called_with_more, element_folding, elements_folding, set_folding}
 
 pub signed_folds : (sign : Option Signed) (c : ConstTree) → signed_folding sign (folding_of c) ≡ folding_of (signed_const sign c)
 signed_folds None c = refl

@@ -1,5 +1,5 @@
 -- Folding over the trees in memory: what a function answers is what its tree folds to.
-use Rattle.std.specs.Prelude.{ℕ, ◌≡◌, Bool, true, ◌&&◌, List, [], ◌∷◌, Option, Some, None, refl}
+use Rattle.std.specs.Prelude.{ℕ, ◌≡◌, true, ◌&&◌, List, [], ◌∷◌, Option, Some, None, refl}
 use Rattle.std.proofs.Common.{◌+◌, ◌<◌, ◌≤◌, length, drop, get_or, ap, sym, ◌∙◌, arith}
 use Rattle.std.proofs.lemmas.List.{at_drop_more}
 use Rattle.oberon_tree.specs.declared.expression.Expr.{Expr, out-Expr}
@@ -24,10 +24,10 @@ use Rattle.oberon_rules.specs.Constants.{add_op, mul_op, expr_const, simple_cons
 use Rattle.oberon_rules.specs.Names.{name_is}
 use Rattle.oberon_types.specs.declared.constant.Op.{Op}
 use Rattle.oberon_rules.specs.Scopes.{Scopes}
-use Rattle.oberon_declare.specs.declared.folding.Folding.{Folding}
-use Rattle.oberon_declare.specs.declared.folding.SetFolding.{SetFolding}
-use Rattle.oberon_declare.specs.Foldings.{folding_of, no_folding, named_folding, call_folding, called_with_one, called_with_two, called_with_more, binary_folding, signed_folding, relation_folding, related_folding, addends_folding, multipliers_folding, range_folding, element_folding, elements_folding, set_folding}
-use Rattle.oberon_declare.proofs.FoldingLaws.{name_folds, one_called, two_called, more_called, signed_folds, related_folds, addends_fold, multipliers_fold, set_folds}
+use Rattle.oberon_constants.specs.declared.folding.Folding.{Folding}
+use Rattle.oberon_constants.specs.declared.folding.SetFolding.{SetFolding}
+use Rattle.oberon_constants.specs.Foldings.{folding_of, no_folding, named_folding, call_folding, called_with_one, called_with_two, called_with_more, binary_folding, signed_folding, relation_folding, related_folding, addends_folding, multipliers_folding, range_folding, element_folding, elements_folding, set_folding}
+use Rattle.oberon_constants.proofs.FoldingLaws.{name_folds, one_called, two_called, more_called, signed_folds, related_folds, addends_fold, multipliers_fold, set_folds}
 
 -- ---- relations
 

@@ -4,7 +4,7 @@ ghost use Rattle.oberon_tree.specs.Trees.{designator_factor, more_selectors, no_
 ghost use Rattle.oberon_types.specs.Folding.{set_const, parts_built};
 ghost use Rattle.oberon_rules.specs.Constants.{add_op, mul_op, folds, expr_const, simple_const, term_const, factor_const, designator_const, elements_const, exprs_const, more_exprs_const};
 ghost use Rattle.oberon_infer.specs.Memory.{plain_scopes, plain_named, plain_word};
-ghost use Rattle.oberon_declare.specs.Foldings.{folding_of, no_folding, known_folding, unary_folding, binary_folding, signed_folding, relation_folding, related_folding, named_folding, is_folding, call_folding, called_with_one, called_with_two, called_with_more, range_folding, element_folding, set_folding};
+ghost use Rattle.oberon_constants.specs.Foldings.{folding_of, no_folding, known_folding, unary_folding, binary_folding, signed_folding, relation_folding, related_folding, named_folding, is_folding, call_folding, called_with_one, called_with_two, called_with_more, range_folding, element_folding, set_folding};
 
 use ob_text::{Name, NoMemory};
 use oberon_infer::{Meaning, Named, Scopes, Standard, Word, look_up, member};

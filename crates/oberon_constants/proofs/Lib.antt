@@ -1,0 +1,2 @@
+pub mod FoldingLaws
+pub mod FoldingMemory
