@@ -139,9 +139,9 @@ const TABLE: [(&str, &str); 61] = [
         "MODULE A; TYPE T = CHAR; U = RECORD (T) END; END A.",
         "0:37-0:38 badBase;",
     ),
-    ("MODULE A; PROCEDURE P(): SET; END P; END A.", ""),
+    ("MODULE A; PROCEDURE P(): SET; RETURN {} END P; END A.", ""),
     (
-        "MODULE A; TYPE T = RECORD END; PROCEDURE P(): T; END P; END A.",
+        "MODULE A; TYPE T = RECORD END; PROCEDURE P(): T; RETURN 1 END P; END A.",
         "0:46-0:47 badResult;",
     ),
     // Expressions of constants.
@@ -177,8 +177,8 @@ const TABLE: [(&str, &str); 61] = [
         "MODULE B; VAR a: T; b: U; END C.",
         "0:7-0:8 moduleName; 0:17-0:18 noName; 0:23-0:24 noName; 0:30-0:31 endName;",
     ),
-    // Statements aren't judged.
-    ("MODULE A; BEGIN x := 1 END A.", ""),
+    // Names in statements.
+    ("MODULE A; BEGIN x := 1 END A.", "0:16-0:17 noName;"),
     // What has no tree.
     ("MODULE A; BEGIN x = 1 END A.", "0:18-0:19 badToken;"),
     ("MODULE A; (* x", "0:10-0:12 openComment;"),

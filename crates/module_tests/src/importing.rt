@@ -31,7 +31,7 @@ const NAMES: [(&str, &str); 50] = [
     ),
     (
         "MODULE A; IMPORT B, B; VAR x: B.T; END A.",
-        "0:20-0:21 nameTwice;",
+        "0:20-0:21 unusedImport; 0:20-0:21 nameTwice;",
     ),
     (
         "MODULE A; IMPORT B, B := Nope; VAR x: B.T; END A.",
@@ -389,7 +389,7 @@ fn views(alloc: Global) -> Result<IndexMap<Name, View>, Fail> {
 }
 
 /// Whether each text of a table has its list; the first that differs is shown.
-fn tells(rt: HostRuntime, table: &[(&str, &str)]) -> Result<(), Fail> {
+pub fn tells(rt: HostRuntime, table: &[(&str, &str)]) -> Result<(), Fail> {
     let alloc = rt.alloc();
     let views = views(alloc)?;
     for (text, want) in table {

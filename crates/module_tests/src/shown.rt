@@ -49,7 +49,7 @@ const IMPORTING: [(&str, &str); 6] = [
     ("MODULE A; IMPORT X := B; CONST l = X.k + 1; END A.", ""),
     (
         "MODULE A; IMPORT X := B; CONST l = B.k + 1; END A.",
-        "0:35-0:36 noName;",
+        "0:17-0:18 unusedImport; 0:35-0:36 noName;",
     ),
     (
         "MODULE A; IMPORT B; CONST l = B.m; END A.",

@@ -7,13 +7,12 @@ use Rattle.oberon_tree.specs.declared.expression.NextExpr.{NextExpr}
 use Rattle.oberon_tree.specs.Memory.{expr_tree, exprs_tree, more_exprs_list}
 use Rattle.oberon_tree.proofs.ExpressionMemory.{exprs_out}
 use Rattle.ob_text.specs.declared.span.Span.{Span}
-use Rattle.ob_text.specs.declared.code.Code.TheVariants as codes_of
 use Rattle.oberon_tree.specs.Trees.{ExprsTree, exprs_of, MoreExprsTree, no_more_exprs, more_exprs}
 use Rattle.oberon_types.specs.Types.{TyTree, unknown_ty}
 use Rattle.oberon_types.specs.Sizes.{too_large, within}
 use Rattle.oberon_rules.specs.Operators.{is_bad}
 use Rattle.oberon_rules.specs.Expressions.{or_unknown}
-use Rattle.oberon_rules.specs.Scopes.{Scopes, Said, row}
+use Rattle.oberon_rules.specs.Scopes.{Scopes, Said}
 use Rattle.oberon_rules.specs.TypeRules.{constant_is, length_meant, length_says, limited, array_of, array_row, dimensions, array_is, dimensions_say, array_says}
 use Rattle.oberon_declare.specs.Arrays.{more_lengths, lengths_of, more_lengths_say, lengths_say, arrays_is, arrays_row}
 

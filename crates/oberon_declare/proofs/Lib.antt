@@ -2,7 +2,6 @@ pub mod ArrayLaws
 pub mod HeadingLaws
 pub mod ListLaws
 pub mod OriginLaws
-pub mod ProcedureLaws
 pub mod RecordLaws
 pub mod RecordSteps
 pub mod SaidLaws

@@ -1,13 +1,13 @@
 -- Lists of names: a list none of whose names is new declares nothing, whatever it would declare.
 use Rattle.std.specs.Prelude.{ℕ, ◌≡◌, Bool, true, false, List, [], ◌∷◌, map, Option, Some, None, if◌then◌else◌, refl}
-use Rattle.std.proofs.Common.{ap, sym, ◌∙◌}
+use Rattle.std.proofs.Common.{ap}
 use Rattle.ob_text.specs.declared.code.Code.TheVariants as codes_of
 use Rattle.oberon_tree.specs.declared.leaf.Ident.{Ident}
 use Rattle.oberon_tree.specs.declared.leaf.IdentDef.{IdentDef}
 use Rattle.oberon_tree.specs.declared.leaf.NextIdent.{NextIdent}
 use Rattle.oberon_tree.specs.declared.leaf.NextIdentDef.{NextIdentDef}
 use Rattle.oberon_tree.specs.Trees.{VariableTree, LocalVariableTree}
-use Rattle.oberon_types.specs.Types.{TyTree, unknown_ty}
+use Rattle.oberon_types.specs.Types.{unknown_ty}
 use Rattle.oberon_rules.specs.Scopes.{Meaning, unknown_meaning, Scopes, is_declared, declare, Said, broken, named_row}
 use Rattle.oberon_rules.specs.TypeRules.{first_new, ident_defs}
 use Rattle.oberon_rules.specs.Declarations.{is_exported, declare_new, new_says, own_variable, names_behind, names_say, list_behind, list_declared}

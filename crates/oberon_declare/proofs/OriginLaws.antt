@@ -1,16 +1,13 @@
 -- Origins of what stands in arrays.
-use Rattle.std.specs.Prelude.{ℕ, zero, suc, ◌≡◌, ◌+◌, ◌<◌, List, [], ◌∷◌, ◌++◌, length, drop, refl}
-use Rattle.std.proofs.Common.{ap, sym, ◌∙◌, arith, add-one}
+use Rattle.std.specs.Prelude.{ℕ, zero, suc, ◌≡◌, ◌+◌, ◌<◌, List, [], ◌∷◌, length, drop}
+use Rattle.std.proofs.Common.{ap, sym, arith, add-one}
 use Rattle.oberon_tree.specs.declared.expression.Exprs.{Exprs, out-Exprs}
 use Rattle.oberon_tree.specs.declared.expression.NextExpr.{NextExpr}
-use Rattle.oberon_tree.specs.Memory.{exprs_tree, expr_before, more_exprs_list}
-use Rattle.oberon_tree.specs.Trees.{MoreExprsTree}
+use Rattle.oberon_tree.specs.Memory.{exprs_tree, more_exprs_list}
 use Rattle.oberon_tree.proofs.ExpressionMemory.{exprs_out, next_expr_out}
 use Rattle.oberon_types.specs.declared.origin.Origin.{Origin}
-use Rattle.oberon_types.specs.declared.origin.Step.{Step}
 use Rattle.oberon_types.specs.declared.origin.Step.TheVariants as steps
 use Rattle.oberon_rules.specs.TypeRules.{deeper, element_steps, element_origin}
-use Rattle.oberon_declare.specs.Origins.{at_path}
 
 -- one more length
 pub length_loop : (o : Origin) (items : List NextExpr) (i : ℕ) → i < length items → element_steps (deeper o steps.Element) (more_exprs_list (drop (i + 1) items)) ≡ element_steps o (more_exprs_list (drop i items))

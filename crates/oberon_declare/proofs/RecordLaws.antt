@@ -9,13 +9,11 @@ use Rattle.oberon_tree.specs.declared.leaf.IdentDef.{IdentDef}
 use Rattle.oberon_tree.specs.Trees.{TypeTree}
 use Rattle.oberon_types.specs.declared.origin.Origin.{Origin}
 use Rattle.oberon_types.specs.declared.ty.Field.{Field}
-use Rattle.oberon_types.specs.Types.{TyTree, unknown_ty, record_ty, BaseTree, no_base, base_of, same_name}
+use Rattle.oberon_types.specs.Types.{TyTree, unknown_ty, record_ty, BaseTree, same_name}
 use Rattle.oberon_types.specs.Types.{FieldsTree as Fields, no_fields as no_more, more_fields as field_before}
-use Rattle.oberon_types.specs.Sizes.{too_large, field_in, field_of_base, record_from, sees, within}
+use Rattle.oberon_types.specs.Sizes.{too_large, field_in, field_of_base, record_from, sees}
 use Rattle.oberon_types.specs.Memory.{plain_ty, fields_list}
 use Rattle.indexmap.specs.IndexSet.{insert_key}
-use Rattle.oberon_rules.specs.Operators.{is_bad}
-use Rattle.oberon_rules.specs.Expressions.{or_unknown}
 use Rattle.oberon_rules.specs.Scopes.{Scopes, Said, broken, row}
 use Rattle.oberon_rules.specs.TypeRules.{BaseMeant, without_base, with_base, unclear_base, bad_base, base_tree, limited, record_is, record_row, list_origin, first_new, is_taken, add_field, add_fields, fields_twice, type_is, type_says}
 use Rattle.oberon_declare.specs.Records.{is_usable, list_type, list_type_says}

@@ -1,5 +1,5 @@
 -- One more name of a list of fields: it is taken, or it is new.
-use Rattle.std.specs.Prelude.{ℕ, ◌≡◌, ◌++◌, Bool, true, false, if◌then◌else◌, List, ◌∷◌, map, is_some, Some, Result, Ok, Err, OnOk}
+use Rattle.std.specs.Prelude.{◌≡◌, ◌++◌, Bool, true, false, if◌then◌else◌, List, ◌∷◌, map, is_some, Some, Result, Ok, Err, OnOk}
 use Rattle.std.proofs.Common.{ap, sym, ◌∙◌}
 use Rattle.ob_text.specs.declared.code.Code.TheVariants as codes_of
 use Rattle.oberon_tree.specs.declared.leaf.IdentDef.{IdentDef}

@@ -24,10 +24,6 @@ both_add old mid new f g h a b same = record { goes = λ rest. b.goes rest ∙ a
 pub three_add : (one two three four : List OwnSaid) (f g k h : List Said → List Said) → Adds one two f → Adds two three g → Adds three four k → ((rest : List Said) → f (g (k rest)) ≡ h rest) → Adds one four h
 three_add one two three four f g k h a b d same = record { goes = λ rest. d.goes rest ∙ b.goes (k rest) ∙ a.goes (g (k rest)) ∙ ap (λ said. map plain_said one ++ said) (same rest) }
 
--- five steps, as one
-pub five_add : (one two three four five six : List OwnSaid) (f g h i j k : List Said → List Said) → Adds one two f → Adds two three g → Adds three four h → Adds four five i → Adds five six j → ((rest : List Said) → f (g (h (i (j rest)))) ≡ k rest) → Adds one six k
-five_add one two three four five six f g h i j k a b c d e same = record { goes = λ rest. e.goes rest ∙ d.goes (j rest) ∙ c.goes (i (j rest)) ∙ b.goes (h (i (j rest))) ∙ a.goes (g (h (i (j rest)))) ∙ ap (λ said. map plain_said one ++ said) (same rest) }
-
 -- a first step, and a loop that comes to its end
 pub said_all : (old mid new : List OwnSaid) (f g k h : List Said → List Said) → Adds old mid f → Goes mid new g k → ((rest : List Said) → k rest ≡ rest) → ((rest : List Said) → f (g rest) ≡ h rest) → Adds old new h
 said_all old mid new f g k h a b end same = record { goes = λ rest. sym (ap (λ said. map plain_said new ++ said) (end rest)) ∙ b.goes rest ∙ a.goes (g rest) ∙ ap (λ said. map plain_said old ++ said) (same rest) }

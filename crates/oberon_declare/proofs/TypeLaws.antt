@@ -1,5 +1,5 @@
 -- Types of trees in memory: what the steps of a record and of a list of fields make is what its tree stands for.
-use Rattle.std.specs.Prelude.{ℕ, ◌≡◌, ◌<◌, ◌+◌, length, drop, Bool, true, false, if◌then◌else◌, List, [], ◌∷◌, is_some, Option, Some, None, refl}
+use Rattle.std.specs.Prelude.{ℕ, ◌≡◌, ◌<◌, ◌+◌, length, drop, List, Option, refl}
 use Rattle.std.proofs.Common.{get_or, ap, sym, ◌∙◌}
 use Rattle.std.proofs.lemmas.List.{at_drop_more}
 use Rattle.oberon_tree.specs.declared.leaf.IdentDef.{IdentDef}
@@ -14,7 +14,7 @@ use Rattle.oberon_types.specs.declared.origin.Origin.{Origin}
 use Rattle.oberon_types.specs.Types.{TyTree, unknown_ty, BaseTree}
 use Rattle.oberon_types.specs.Types.{FieldsTree as Fields, no_fields as no_more}
 use Rattle.oberon_rules.specs.Scopes.{Scopes, Said}
-use Rattle.oberon_rules.specs.TypeRules.{BaseMeant, base_is, base_tree, base_says, record_is, record_row, fields_are, fields_say, more_fields_are, more_fields_say, list_is, list_says, type_is, type_says, ident_defs, first_new, is_taken, add_fields, fields_twice, list_origin}
+use Rattle.oberon_rules.specs.TypeRules.{base_is, base_tree, base_says, record_is, record_row, fields_are, fields_say, more_fields_are, more_fields_say, list_is, list_says, type_is, type_says, ident_defs, first_new, is_taken, add_fields, fields_twice}
 use Rattle.oberon_declare.specs.Records.{list_type, list_type_says}
 use Rattle.oberon_declare.proofs.RecordLaws.{same_itself, twice_any, list_is_by, list_says_by}
 

@@ -1,5 +1,5 @@
 -- A record while it is made: its owner, and the names that its fields have so far.
-use Rattle.std.specs.Prelude.{ℕ, ◌≡◌, Bool, true, false, if◌then◌else◌, List, is_some, Option, Some, None}
+use Rattle.std.specs.Prelude.{ℕ, ◌≡◌, Bool, true, false, List, is_some, Option, Some, None}
 use Rattle.oberon_tree.specs.declared.leaf.IdentDef.{IdentDef}
 use Rattle.oberon_tree.specs.declared.types.ArrayType.{ArrayType}
 use Rattle.oberon_tree.specs.Memory.{exprs_tree, type_tree}

@@ -10,8 +10,8 @@ use Rattle.oberon_types.specs.Types.{same_name}
 use Rattle.oberon_rules.specs.Local.{view_in}
 use Rattle.oberon_rules.specs.Module.{imported, import_behind, imports_behind}
 use Rattle.oberon_rules.specs.Scopes.{import_meaning, Scopes}
-use Rattle.oberon_declare.proofs.ProcedureLaws.{new_outside}
-use Rattle.oberon_declare.specs.Levels.{IsOutside}
+use Rattle.oberon_procedures.proofs.ProcedureLaws.{new_outside}
+use Rattle.oberon_procedures.specs.Levels.{IsOutside}
 use Rattle.oberon_module.specs.Views.{plain_views}
 
 abbrev pub view_or : Option View → ViewTree

@@ -12,4 +12,5 @@ pub mod RowLists
 pub mod RowOrder
 pub mod ShownRows
 pub mod SortedLaws
+pub mod UnusedLaws
 pub mod WrittenLaws

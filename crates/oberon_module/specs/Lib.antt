@@ -5,5 +5,6 @@ pub mod Reading
 pub mod Rows
 pub mod Sorted
 pub mod Sweeps
+pub mod Used
 pub mod Views
 pub mod Written

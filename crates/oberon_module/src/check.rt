@@ -1,10 +1,10 @@
-ghost use Rattle.std.specs.Prelude.{◌≡◌, false, if◌then◌else◌, List, [], map, IfOk};
+ghost use Rattle.std.specs.Prelude.{◌≡◌, true, if◌then◌else◌, List, [], map, IfOk};
 ghost use Rattle.ob_text.specs.Held.{IsReadable};
 ghost use Rattle.oberon_tree.specs.Memory.{tree_of};
 ghost use Rattle.oberon_types.specs.Entities.{broken_view, exports_view};
 ghost use Rattle.oberon_types.specs.Memory.{plain_view};
 ghost use Rattle.oberon_rules.specs.Judged.{has_error};
-ghost use Rattle.oberon_rules.specs.Local.{LocalDeclarations, IsTreeless, view_in};
+ghost use Rattle.oberon_rules.specs.Local.{Local, IsTreeless, view_in};
 ghost use Rattle.oberon_rules.specs.Views.{written, map_view, exported_in};
 ghost use Rattle.oberon_infer.specs.Memory.{plain_said, plain_scope};
 ghost use Rattle.oberon_module.specs.Checked.{IsChecked, says_error};
@@ -36,7 +36,7 @@ pub struct Checked {
 }
 
 /// Checks what is held at a document's path by the views of its imports; a name without a view is no module. `stem` is
-/// the stem of the document's path. Statements, RETURN and the use of imports aren't judged.
+/// the stem of the document's path.
 pub fn check_module(
     alloc: Global,
     stem: &Name,
@@ -44,7 +44,7 @@ pub fn check_module(
     views: &IndexMap<Name, View>,
 ) -> Result<Checked, NoMemory>
     requires { IsReadable held.now }
-    ensures { IfOk result (λ c. LocalDeclarations held.now stem.now (view_in (plain_views views.now.entries)) c.list.items c.imports.items (plain_view c.view)) }
+    ensures { IfOk result (λ c. Local held.now stem.now (view_in (plain_views views.now.entries)) c.list.items c.imports.items (plain_view c.view)) }
 {
     let tokens = read_tokens(alloc, held)?;
     let reading = read_tree(alloc, held, tokens)?;
@@ -60,7 +60,7 @@ pub fn check_read(
     views: &IndexMap<Name, View>,
 ) -> Result<Checked, NoMemory>
     requires { IsRead held.now reading }
-    ensures { IfOk result (λ c. LocalDeclarations held.now stem.now (view_in (plain_views views.now.entries)) c.list.items c.imports.items (plain_view c.view)) }
+    ensures { IfOk result (λ c. Local held.now stem.now (view_in (plain_views views.now.entries)) c.list.items c.imports.items (plain_view c.view)) }
 {
     match reading {
         Reading::Parsed(tree) => check_tree(alloc, stem, text_of(held), &tree, views),
@@ -89,7 +89,7 @@ fn check_tree(
     tree: &Tree,
     views: &IndexMap<Name, View>,
 ) -> Result<Checked, NoMemory>
-    ensures { IfOk result (λ c. IsChecked false text.now stem.now (view_in (plain_views views.now.entries)) (tree_of tree.now) c.list.items c.imports.items (plain_view c.view)) }
+    ensures { IfOk result (λ c. IsChecked true text.now stem.now (view_in (plain_views views.now.entries)) (tree_of tree.now) c.list.items c.imports.items (plain_view c.view)) }
 {
     let missing = View::Missing;
     let views = Views {

@@ -27,7 +27,7 @@ pub struct Views<'a> {
 
 impl<'a> Views<'a> {
     /// The view of a module. Takes no memory.
-    fn of(self, name: &Name) -> &'a View
+    pub fn of(self, name: &Name) -> &'a View
         requires { plain_view self.missing.now ≡ missing_view }
         ensures { plain_view result.now ≡ views_of self.entry name.now }
     {
@@ -85,7 +85,7 @@ fn import<'a>(
 }
 
 /// The name of the module, which stands behind the local one where there are two.
-fn imported(tree: &Import) -> &Ident
+pub fn imported(tree: &Import) -> &Ident
     ensures { result.now ≡ imported tree.now }
 {
     match &tree.alias {

@@ -1,4 +1,4 @@
-use Rattle.std.proofs.Common.{◌++◌, ◌∷◌, [], List, ℕ, Option, sym, ◌∙◌, ap}
+use Rattle.std.proofs.Common.{◌++◌, ◌∷◌, [], List, ℕ, Option, ◌∙◌, ap}
 use Rattle.oberon_infer.specs.Memory.{plain_scopes}
 use Rattle.oberon_declare.proofs.ArrayLaws.{lengths_done, lengths_said, lengths_end}
 use Rattle.oberon_declare.proofs.SaidLaws.{said_all}

@@ -1,4 +1,4 @@
-use Rattle.std.proofs.Common.{sym, ◌∙◌, ap}
+use Rattle.std.proofs.Common.{◌∙◌}
 use Rattle.oberon_types.specs.Memory.{plain_ty}
 use Rattle.oberon_declare.proofs.ArrayLaws.{array_loop, array_loop_rows}
 use Rattle.oberon_declare.proofs.SaidLaws.{goes_on_as}

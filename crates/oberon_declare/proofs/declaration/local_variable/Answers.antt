@@ -1,13 +1,12 @@
-use Rattle.std.specs.Prelude.{◌≡◌, List, Option, refl}
+use Rattle.std.specs.Prelude.{List, Option, refl}
 use Rattle.std.specs.Option.{option_copied}
 use Rattle.std.proofs.Common.{sym, ◌∙◌, ap}
 use Rattle.std.proofs.lemmas.Result.{on_ok_weaker}
 use Rattle.oberon_tree.specs.declared.leaf.Ident.{Ident}
 use Rattle.oberon_tree.specs.Memory.{local_variable_tree}
-use Rattle.oberon_types.specs.Memory.{plain_ty}
 use Rattle.oberon_types.specs.Types.{TyTree}
 use Rattle.oberon_rules.specs.Scopes.{Said, is_declared}
-use Rattle.oberon_rules.specs.Declarations.{own_variable, names_behind, names_say}
+use Rattle.oberon_rules.specs.Declarations.{own_variable}
 use Rattle.oberon_rules.specs.Procedures.{idents, idents_behind, idents_say, local_variable}
 use Rattle.oberon_rules.specs.TypeRules.{ident_defs, first_new}
 use Rattle.oberon_infer.specs.Memory.{plain_scopes}

@@ -1,10 +1,9 @@
-use Rattle.std.specs.Prelude.{◌≡◌, List, Option, refl}
+use Rattle.std.specs.Prelude.{Option, refl}
 use Rattle.std.specs.Option.{option_copied}
-use Rattle.std.proofs.Common.{sym, ◌∙◌, ap}
+use Rattle.std.proofs.Common.{◌∙◌, ap}
 use Rattle.std.proofs.lemmas.Result.{on_ok_weaker}
 use Rattle.oberon_tree.specs.declared.leaf.Ident.{Ident}
-use Rattle.oberon_tree.specs.Memory.{variable_tree, type_tree}
-use Rattle.oberon_types.specs.Memory.{plain_ty}
+use Rattle.oberon_tree.specs.Memory.{variable_tree}
 use Rattle.oberon_types.specs.Types.{TyTree}
 use Rattle.oberon_rules.specs.Scopes.{is_declared}
 use Rattle.oberon_rules.specs.Declarations.{own_variable, names_behind, names_say}

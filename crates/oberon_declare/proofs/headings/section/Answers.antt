@@ -1,9 +1,9 @@
-use Rattle.std.specs.Prelude.{Bool, ◌≡◌, ◌++◌, List, map, Option}
+use Rattle.std.specs.Prelude.{Bool, ◌++◌, map, Option}
 use Rattle.std.specs.Option.{option_copied}
-use Rattle.std.proofs.Common.{sym, ◌∙◌, ap}
+use Rattle.std.proofs.Common.{◌∙◌, ap}
 use Rattle.std.proofs.lemmas.Result.{on_ok_weaker}
 use Rattle.oberon_tree.specs.declared.leaf.Ident.{Ident}
-use Rattle.oberon_tree.specs.Memory.{section_tree, idents_tree}
+use Rattle.oberon_tree.specs.Memory.{section_tree}
 use Rattle.oberon_types.specs.Memory.{plain_ty, plain_param}
 use Rattle.oberon_types.specs.Types.{TyTree}
 use Rattle.oberon_rules.specs.Procedures.{idents, idents_behind, idents_say, parameter, by_var, section_is, section_type_says}

@@ -1,7 +1,6 @@
 use Rattle.std.specs.Prelude.{◌≡◌, ◌+◌, ◌++◌, ◌∷◌, [], List, drop, IfOk}
 use Rattle.std.proofs.Common.{sym, ◌∙◌, ap, subst}
 use Rattle.std.proofs.lemmas.List.{at_drop_all}
-use Rattle.oberon_tree.specs.declared.expression.Exprs.{out-Exprs}
 use Rattle.oberon_tree.specs.declared.expression.NextExpr.{NextExpr}
 use Rattle.oberon_tree.specs.Memory.{more_exprs_list}
 use Rattle.oberon_types.specs.declared.origin.Origin.{Origin}

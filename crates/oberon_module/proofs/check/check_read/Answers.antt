@@ -1,9 +1,9 @@
-use Rattle.std.specs.Prelude.{false, List, ℕ}
+use Rattle.std.specs.Prelude.{true, List, ℕ}
 use Rattle.std.proofs.Common.{subst}
 use Rattle.std.proofs.lemmas.Result.{IfOk-weaker}
 use Rattle.oberon_tree.specs.Memory.{tree_of}
 use Rattle.oberon_types.specs.Memory.{plain_view}
-use Rattle.oberon_rules.specs.Local.{LocalDeclarations, view_in}
+use Rattle.oberon_rules.specs.Local.{Local, view_in}
 use Rattle.oberon_module.specs.declared.check.Checked.{Checked}
 use Rattle.oberon_module.specs.Checked.{IsChecked}
 use Rattle.oberon_module.specs.Reading.{IsRead}
@@ -18,6 +18,6 @@ returns-in-Parsed c =
     let views = view_in (plain_views c.args.views.now.entries) in
     let tree = tree_of c.in-Parsed.tree in
     let has = subst (IsRead held) c.in-Parsed.is c.requires in
-    IfOk-weaker c.check_tree.result (λ (f : Checked). IsChecked false c.text_of.result.now me views tree f.list.items f.imports.items (plain_view f.view)) (λ (f : Checked). LocalDeclarations held me views f.list.items f.imports.items (plain_view f.view))
-    (λ f found. tree_checked held tree false me views f.list.items f.imports.items (plain_view f.view) has (subst (λ (text : List ℕ). IsChecked false text me views tree f.list.items f.imports.items (plain_view f.view)) c.text_of.ensures found))
+    IfOk-weaker c.check_tree.result (λ (f : Checked). IsChecked true c.text_of.result.now me views tree f.list.items f.imports.items (plain_view f.view)) (λ (f : Checked). Local held me views f.list.items f.imports.items (plain_view f.view))
+    (λ f found. tree_checked held tree true me views f.list.items f.imports.items (plain_view f.view) has (subst (λ (text : List ℕ). IsChecked true text me views tree f.list.items f.imports.items (plain_view f.view)) c.text_of.ensures found))
     c.check_tree.ensures

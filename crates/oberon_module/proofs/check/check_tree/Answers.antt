@@ -1,4 +1,4 @@
-use Rattle.std.specs.Prelude.{◌++◌, false, if◌then◌else◌, List, [], map}
+use Rattle.std.specs.Prelude.{if◌then◌else◌, List, [], map}
 use Rattle.std.proofs.Common.{ap, sym, subst, ◌∙◌}
 use Rattle.std.proofs.lemmas.List.{append-nil}
 use Rattle.oberon_tree.specs.Memory.{tree_of, module_tree}
@@ -8,7 +8,6 @@ use Rattle.oberon_infer.specs.declared.said.Said.{Said as OwnSaid}
 use Rattle.oberon_infer.specs.Memory.{plain_said, plain_scope}
 use Rattle.oberon_rules.specs.Judged.{found, has_error}
 use Rattle.oberon_rules.specs.Local.{view_in}
-use Rattle.oberon_rules.specs.Module.{module_says}
 use Rattle.oberon_rules.specs.Order.{IsListed}
 use Rattle.oberon_rules.specs.Scopes.{Scopes}
 use Rattle.oberon_rules.specs.Views.{written, map_view, exported_in}
@@ -22,7 +21,7 @@ returns c =
     checked c.args.text.now c.args.stem.now (view_in (plain_views c.args.views.now.entries)) (tree_of c.args.tree.now) (module_tree c.root-module.result.now) said (map plain_said c.judge.new.said.items) (plain_scope c.in_ok-scopes.scopes.globals) c.is_too_large-large.result
     c.root-module.ensures
     (ap (λ (s : Scopes). s.globals) c.in_ok-scopes.ensures.is)
-    (c.in_ok-scopes.ensures.says ∙ ap (λ (xs : List OwnSaid). map plain_said xs ++ module_says false c.args.stem.now (view_in (plain_views c.args.views.now.entries)) (module_tree c.root-module.result.now)) c.new-said.ensures.items)
+    c.in_ok-scopes.ensures.says
     c.is_too_large-large.ensures
     (sym (append-nil said) ∙ c.in_ok-add_row.ensures.goes [])
     c.in_ok-listed.field-0.items c.in_ok-imports_of.field-0.items (plain_view c.in_ok-view_of.field-0)

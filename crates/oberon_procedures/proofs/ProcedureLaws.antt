@@ -5,11 +5,12 @@ use Rattle.oberon_tree.specs.declared.leaf.Ident.{Ident}
 use Rattle.oberon_tree.specs.declared.leaf.IdentDef.{IdentDef}
 use Rattle.oberon_tree.specs.Trees.{ConstantTree, TypeDeclarationTree, DeclarationsTree, VariableTree, SectionTree, FormalsTree, ProcedureTree}
 use Rattle.oberon_types.specs.Entities.{SignatureTree}
+use Rattle.oberon_types.specs.Types.{TyTree}
 use Rattle.oberon_rules.specs.Scopes.{Meaning, Entry, Scopes, Said, is_declared, declare, local_with, type_meaning, procedure_meaning}
 use Rattle.oberon_rules.specs.TypeRules.{constant_is, first_new, ident_defs, type_is}
 use Rattle.oberon_rules.specs.Declarations.{is_exported, declare_new, new_says, constants_declared, variables_declared, names_behind, own_variable, origin_at, constant_meant, constant_behind, list_behind, variable_behind, type_behind, constants_behind, types_behind, variables_behind, constant_items, type_items, variable_items, decls_behind}
-use Rattle.oberon_rules.specs.Procedures.{idents, idents_behind, parameter, by_var, section_is, section_behind, sections_of, sections_behind, head_behind, entered, with_globals, signature_of, procedure_behind, inside, inside_constants, inside_body, local_constants, local_variables, head_says, procedure_says, end_row}
-use Rattle.oberon_declare.specs.Levels.{IsOutside, outside}
+use Rattle.oberon_rules.specs.Procedures.{idents, idents_behind, parameter, by_var, section_is, section_behind, sections_of, sections_behind, head_behind, entered, with_globals, signature_of, procedure_behind, inside, inside_constants, inside_body, local_constants, local_variables, head_says, body_says, return_says, procedure_says, end_row}
+use Rattle.oberon_procedures.specs.Levels.{IsOutside, outside}
 
 -- a place inside of a procedure, where the module has these names
 pub record IsInside (s : Scopes) (gs : List Entry) : Type 0 where
@@ -151,10 +152,12 @@ inside_is me s one two p sig procedure locals head signature declared =
     ∙ ap (λ (t : Scopes). with_globals h (declare_new t p.name.name (is_exported p.name) (procedure_meaning (signature_of me s p)))) (outside_again me s p procedure locals)
 
 -- what is said of it, step by step
-pub procedure_speaks : (me : List ℕ) (s one two three : Scopes) (p : ProcedureTree) (rest : List Said) → s.procedure ≡ None → s.locals ≡ None → one ≡ head_behind me (entered s p.name.name.name) p.formals → two ≡ inside me s p → three ≡ inside_constants me s p → head_says me (entered s p.name.name.name) p.formals (new_says (outside one) p.name.name (constants_declared me two (local_constants p.locals.constants) (variables_declared me three (local_variables p.locals.variables) (end_row p.name.name p.end_name rest)))) ≡ procedure_says false me s p rest
-procedure_speaks me s one two three p rest procedure locals head e f =
-    let said = λ (t u v : Scopes). head_says me (entered s p.name.name.name) p.formals (new_says t p.name.name (constants_declared me u (local_constants p.locals.constants) (variables_declared me v (local_variables p.locals.variables) (end_row p.name.name p.end_name rest)))) in
-    ap (λ (t : Scopes). said (outside t) two three) head
-    ∙ ap (λ (t : Scopes). said t two three) (outside_again me s p procedure locals)
-    ∙ ap (λ (u : Scopes). said s u three) e
-    ∙ ap (λ (v : Scopes). said s (inside me s p) v) f
+pub procedure_speaks : (me : List ℕ) (s one two three four : Scopes) (result : Option TyTree) (p : ProcedureTree) (rest : List Said) → s.procedure ≡ None → s.locals ≡ None → one ≡ head_behind me (entered s p.name.name.name) p.formals → two ≡ inside me s p → three ≡ inside_constants me s p → four ≡ inside_body me s p → result ≡ (signature_of me s p).result_type → head_says me (entered s p.name.name.name) p.formals (new_says (outside one) p.name.name (constants_declared me two (local_constants p.locals.constants) (variables_declared me three (local_variables p.locals.variables) (body_says me four p.body (return_says me four result p.returns p.end_name (end_row p.name.name p.end_name rest)))))) ≡ procedure_says true me s p rest
+procedure_speaks me s one two three four result p rest procedure locals head e f g h =
+    let said = λ (t u v w : Scopes) (r : Option TyTree). head_says me (entered s p.name.name.name) p.formals (new_says t p.name.name (constants_declared me u (local_constants p.locals.constants) (variables_declared me v (local_variables p.locals.variables) (body_says me w p.body (return_says me w r p.returns p.end_name (end_row p.name.name p.end_name rest)))))) in
+    ap (λ (t : Scopes). said (outside t) two three four result) head
+    ∙ ap (λ (t : Scopes). said t two three four result) (outside_again me s p procedure locals)
+    ∙ ap (λ (u : Scopes). said s u three four result) e
+    ∙ ap (λ (v : Scopes). said s (inside me s p) v four result) f
+    ∙ ap (λ (w : Scopes). said s (inside me s p) (inside_constants me s p) w result) g
+    ∙ ap (λ (r : Option TyTree). said s (inside me s p) (inside_constants me s p) (inside_body me s p) r) h

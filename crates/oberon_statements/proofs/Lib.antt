@@ -1,0 +1,3 @@
+pub mod LabelLaws
+pub mod RowLaws
+pub mod StatementLaws

@@ -1,0 +1,4 @@
+pub mod Controls
+pub mod Labels
+pub mod Left
+pub mod Returns
