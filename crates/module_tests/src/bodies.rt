@@ -2,8 +2,8 @@
 use crate::importing::tells;
 use std::test::Fail;
 
-/// A text of A.Mod and its diagnostics.
-const TABLE: [(&str, &str); 116] = [
+/// Which imports are used, RETURN and selectors.
+const USE: [(&str, &str); 27] = [
     // Imports that nothing uses (section 11).
     ("MODULE A; IMPORT B; END A.", "0:17-0:18 unusedImport;"),
     ("MODULE A; IMPORT B; BEGIN ASSERT(B.k = 3) END A.", ""),
@@ -91,6 +91,10 @@ const TABLE: [(&str, &str); 116] = [
         "MODULE A; TYPE T = RECORD f: INTEGER END; U = RECORD (T) g: CHAR END; VAR r: T; BEGIN r.g := \"x\" END A.",
         "0:88-0:89 noName;",
     ),
+];
+
+/// Variables, operands and assignments.
+const VALUES: [(&str, &str); 30] = [
     // Variables (sections 8.1, 9.1 and 10.2).
     (
         "MODULE A; VAR i: INTEGER; b: BYTE; c: CHAR; t: BOOLEAN; s: SET; a: ARRAY 4 OF CHAR; BEGIN i := 1 END A.",
@@ -214,6 +218,10 @@ const TABLE: [(&str, &str); 116] = [
         "MODULE A; VAR i: INTEGER; b: BYTE; c: CHAR; t: BOOLEAN; s: SET; a: ARRAY 4 OF CHAR; BEGIN Nope := Nope END A.",
         "0:90-0:94 noName; 0:98-0:102 noName;",
     ),
+];
+
+/// Conditions and FOR.
+const CONTROL: [(&str, &str); 20] = [
     // Conditions (sections 9.4, 9.6 and 9.7).
     (
         "MODULE A; VAR i: INTEGER; b: BYTE; c: CHAR; t: BOOLEAN; s: SET; a: ARRAY 4 OF CHAR; BEGIN IF t THEN ELSIF i = 1 THEN END END A.",
@@ -296,6 +304,10 @@ const TABLE: [(&str, &str); 116] = [
         "MODULE A; VAR i: INTEGER; b: BYTE; c: CHAR; t: BOOLEAN; s: SET; a: ARRAY 4 OF CHAR; BEGIN s := {1, t} END A.",
         "0:99-0:100 notInteger;",
     ),
+];
+
+/// Calls.
+const CALLS: [(&str, &str); 22] = [
     // Calls (sections 9.2, 10.1 and 10.2).
     ("MODULE A; PROCEDURE Q; END Q; BEGIN Q; Q() END A.", ""),
     (
@@ -379,6 +391,10 @@ const TABLE: [(&str, &str); 116] = [
         "MODULE A; IMPORT B; VAR i: INTEGER; BEGIN i := B.F(\"x\") END A.",
         "0:51-0:54 badArgument;",
     ),
+];
+
+/// The labels of CASE, and all rules at once.
+const LABELS: [(&str, &str); 17] = [
     // CASE (section 9.5).
     (
         "MODULE A; VAR i: INTEGER; b: BYTE; c: CHAR; t: BOOLEAN; s: SET; a: ARRAY 4 OF CHAR; BEGIN CASE i OF 1, 3 .. 5: | 7: i := 0 END END A.",
@@ -452,6 +468,26 @@ const TABLE: [(&str, &str); 116] = [
 ];
 
 #[test]
-fn tells_of_bodies(rt: HostRuntime) -> Result<(), Fail> {
-    tells(rt, TABLE.as_slice())
+fn tells_of_use(rt: HostRuntime) -> Result<(), Fail> {
+    tells(rt, USE.as_slice())
+}
+
+#[test]
+fn tells_of_values(rt: HostRuntime) -> Result<(), Fail> {
+    tells(rt, VALUES.as_slice())
+}
+
+#[test]
+fn tells_of_control(rt: HostRuntime) -> Result<(), Fail> {
+    tells(rt, CONTROL.as_slice())
+}
+
+#[test]
+fn tells_of_calls(rt: HostRuntime) -> Result<(), Fail> {
+    tells(rt, CALLS.as_slice())
+}
+
+#[test]
+fn tells_of_labels(rt: HostRuntime) -> Result<(), Fail> {
+    tells(rt, LABELS.as_slice())
 }
