@@ -29,7 +29,7 @@ one_index limit ts j k first other =
     omega (arith, low, high)
 
 -- the tokens of a module have none
-none_bad : (limit : ℕ) (ts : List Token) (k : ℕ) → IsSentence limit ts → IsFirstBad limit ts k → ⊥
+pub none_bad : (limit : ℕ) (ts : List Token) (k : ℕ) → IsSentence limit ts → IsFirstBad limit ts k → ⊥
 none_bad limit ts k s f = by_bad f.bad
   where
     by_bad : ((k < length ts) × ¬ IsFront limit (take (suc k) ts)) ⊎ ((k ≡ length ts) × ¬ IsSentence limit ts) → ⊥

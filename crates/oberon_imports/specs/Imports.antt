@@ -3,7 +3,6 @@ use Rattle.std.specs.Prelude.{ℕ, ◌==◌, List, [], ◌∷◌, Option, Some, 
 use Rattle.std.specs.Cmp.Lexicographic.{pointwise}
 use Rattle.ob_text.specs.Once.{each_once}
 use Rattle.oberon_tree.specs.declared.module.Import.{Import}
-use Rattle.oberon_tree.specs.declared.module.Alias.{Alias}
 use Rattle.oberon_tree.specs.declared.module.NextImport.{NextImport}
 use Rattle.oberon_tree.specs.Trees.{ModuleTree, ImportsTree}
 

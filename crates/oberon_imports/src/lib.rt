@@ -1,5 +1,6 @@
 //! The modules that a module imports (The Programming Language Oberon-07, section 11). It stands on `oberon_tree`,
-//! and may know trees, and nothing of texts nor of the server. Begin reading at `specs/Imports.antt`.
+//! and on `oberon_scan` for tokens, and may know trees and their tokens, and nothing of texts nor of the server. Begin
+//! reading at `specs/Imports.antt`. That the imports are a function of the tokens is `proofs/OneList.antt`.
 #![tactic(auto)]
 
 ghost use Rattle.std.specs.Prelude.{◌≡◌, ◌==◌, IfOk, OnOk};

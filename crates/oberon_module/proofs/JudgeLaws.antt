@@ -1,5 +1,5 @@
 -- Behind its declarations a module is outside of all procedures; and what is said of it, with the use of its imports.
-use Rattle.std.specs.Prelude.{ℕ, ◌≡◌, ◌++◌, true, List, [], refl}
+use Rattle.std.specs.Prelude.{ℕ, ◌≡◌, ◌++◌, List, [], refl}
 use Rattle.std.proofs.Common.{ap, sym, ◌∙◌}
 use Rattle.std.proofs.lemmas.List.{append-nil}
 use Rattle.oberon_tree.specs.Trees.{ModuleTree}
@@ -16,6 +16,6 @@ decls_inside me views m two e =
     record { procedure = ap (λ (s : Scopes). s.procedure) e ∙ o.procedure; locals = ap (λ (s : Scopes). s.locals) e ∙ o.locals }
 
 -- all that is said of a module: what is said without the use of imports, and then of that
-pub module_spoken : (me : List ℕ) (views : List ℕ → ViewTree) (m : ModuleTree) (whole all : List Said) → whole ≡ whole_says true me views m → all ++ [] ≡ whole ++ unused_say views start (import_list m.imports) whole [] → all ≡ module_says true me views m
+pub module_spoken : (me : List ℕ) (views : List ℕ → ViewTree) (m : ModuleTree) (whole all : List Said) → whole ≡ whole_says me views m → all ++ [] ≡ whole ++ unused_say views start (import_list m.imports) whole [] → all ≡ module_says me views m
 module_spoken me views m whole all is more =
     sym (append-nil all) ∙ more ∙ ap (λ (xs : List Said). xs ++ unused_say views start (import_list m.imports) xs []) is

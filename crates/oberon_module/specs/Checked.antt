@@ -10,10 +10,10 @@ use Rattle.oberon_rules.specs.Views.{written, map_view}
 use Rattle.oberon_tree.specs.Trees.{ModuleTree}
 use Rattle.oberon_types.specs.Entities.{ViewTree}
 
-pub record IsChecked (bodies : Bool) (text me : List ℕ) (views : List ℕ → ViewTree) (tree : ModuleTree) (list : List Diagnostic) (imports : List (List ℕ)) (view : ViewTree) : Type 0 where
-  pub listed : IsListed (found text (all_said bodies me views tree)) list
+pub record IsChecked (text me : List ℕ) (views : List ℕ → ViewTree) (tree : ModuleTree) (list : List Diagnostic) (imports : List (List ℕ)) (view : ViewTree) : Type 0 where
+  pub listed : IsListed (found text (all_said me views tree)) list
   pub imported : imports ≡ imports_in tree
-  pub shown : view ≡ map_view written (declared_view bodies me views tree)
+  pub shown : view ≡ map_view written (declared_view me views tree)
 
 abbrev pub says_error : Said → Bool
 says_error (broken place code name) = is_error (severity_of code)

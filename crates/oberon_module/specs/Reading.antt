@@ -1,8 +1,9 @@
 -- What was read of a document: its list where it has no tree, its tokens, or its tree.
-use Rattle.std.specs.Prelude.{◌≡◌, ◌≤◌, ℕ, Bool, List, []}
+use Rattle.std.specs.Prelude.{◌≡◌, ◌≤◌, ℕ, List, []}
 use Rattle.ob_text.specs.declared.diagnostic.Diagnostic.{Diagnostic}
 use Rattle.ob_text.specs.declared.held.Held.{Held}
 use Rattle.ob_text.specs.declared.held.Held.TheVariants.{Text, Absent, TooLarge, NotText}
+use Rattle.oberon_imports.specs.Imports.{imports_in}
 use Rattle.oberon_parse.specs.Sentence.{most_levels}
 use Rattle.oberon_scan.specs.Lexis.{Lex}
 use Rattle.oberon_scan.specs.declared.token.Token.{Token}
@@ -11,13 +12,13 @@ use Rattle.oberon_tree.specs.Memory.{tree_of}
 use Rattle.oberon_tree.specs.Print.{tokens_of}
 use Rattle.oberon_tree.specs.Trees.{ModuleTree}
 use Rattle.oberon_types.specs.Entities.{ViewTree, broken_view}
-use Rattle.oberon_rules.specs.Local.{HeldLocal}
+use Rattle.oberon_rules.specs.Local.{Local}
 use Rattle.oberon_module.specs.declared.reading.Reading.{Reading}
 use Rattle.oberon_module.specs.declared.reading.Reading.TheVariants as readings
 
 -- what has no tree has this list, whatever it is checked by
 abbrev pub HasNoTree : Held → List Diagnostic → Type 0
-HasNoTree held list = (bodies : Bool) (me : List ℕ) (views : List ℕ → ViewTree) → HeldLocal bodies held me views list [] broken_view
+HasNoTree held list = (me : List ℕ) (views : List ℕ → ViewTree) → Local held me views list [] broken_view
 
 -- a text without lexical faults has these tokens
 pub record HasTokens (held : Held) (tokens : List Token) : Type 0 where
@@ -49,3 +50,9 @@ text_of (Text text) = text
 text_of Absent = []
 text_of TooLarge = []
 text_of NotText = []
+
+-- the names of the modules that are imported, each once, in the order of the text; what has no tree imports none
+abbrev pub imports_read : Reading → List (List ℕ)
+imports_read (readings.Listed list) = []
+imports_read (readings.Scanned tokens) = []
+imports_read (readings.Parsed tree) = imports_in (tree_of tree)

@@ -8,14 +8,14 @@ ghost use Rattle.oberon_rules.specs.Local.{Local, IsTreeless, view_in};
 ghost use Rattle.oberon_rules.specs.Views.{written, map_view, exported_in};
 ghost use Rattle.oberon_infer.specs.Memory.{plain_said, plain_scope};
 ghost use Rattle.oberon_module.specs.Checked.{IsChecked, says_error};
-ghost use Rattle.oberon_module.specs.Reading.{IsRead};
+ghost use Rattle.oberon_module.specs.Reading.{IsRead, imports_read};
 ghost use Rattle.oberon_module.specs.Views.{plain_views};
 
 use crate::exports::{exports, is_too_large};
 use crate::importing::Views;
 use crate::judging::judge;
 use crate::listing::listed;
-use crate::reading::{Reading, read_tokens, read_tree, text_of};
+use crate::reading::{Reading, copied, read_tokens, read_tree, text_of};
 use indexmap::IndexMap;
 use ob_text::{Code, Diagnostic, Held, Name, NoMemory, Severity};
 use oberon_imports::imports_of;
@@ -48,7 +48,7 @@ pub fn check_module(
 {
     let tokens = read_tokens(alloc, held)?;
     let reading = read_tree(alloc, held, tokens)?;
-    check_read(alloc, stem, held, reading, views)
+    check_read(alloc, stem, held, &reading, views)
 }
 
 /// Checks a document that was read as far as its tree.
@@ -56,29 +56,30 @@ pub fn check_read(
     alloc: Global,
     stem: &Name,
     held: &Held,
-    reading: Reading,
+    reading: &Reading,
     views: &IndexMap<Name, View>,
 ) -> Result<Checked, NoMemory>
-    requires { IsRead held.now reading }
-    ensures { IfOk result (λ c. Local held.now stem.now (view_in (plain_views views.now.entries)) c.list.items c.imports.items (plain_view c.view)) }
+    requires { IsRead held.now reading.now }
+    ensures local { IfOk result (λ c. Local held.now stem.now (view_in (plain_views views.now.entries)) c.list.items c.imports.items (plain_view c.view)) }
+    ensures imports { IfOk result (λ c. c.imports.items ≡ imports_read reading.now) }
 {
     match reading {
-        Reading::Parsed(tree) => check_tree(alloc, stem, text_of(held), &tree, views),
-        Reading::Listed(list) => Ok(without_tree(alloc, list)),
+        Reading::Parsed(tree) => check_tree(alloc, stem, text_of(held), tree, views),
+        Reading::Listed(list) => without_tree(alloc, list.as_slice()),
         Reading::Scanned(_) => unreachable!(),
     }
 }
 
 /// What has no tree imports nothing, and is broken.
-fn without_tree(alloc: Global, list: Vec<Diagnostic>) -> Checked
-    ensures listed { result.list ≡ list }
-    ensures treeless { IsTreeless result.imports.items (plain_view result.view) }
+fn without_tree(alloc: Global, list: &[Diagnostic]) -> Result<Checked, NoMemory>
+    ensures listed { IfOk result (λ c. c.list.items ≡ list.now) }
+    ensures treeless { IfOk result (λ c. IsTreeless c.imports.items (plain_view c.view)) }
 {
-    Checked {
-        list,
+    Ok(Checked {
+        list: copied(alloc, list)?,
         imports: Vec::new(alloc),
         view: View::Broken,
-    }
+    })
 }
 
 /// Checks a module by its tree.
@@ -89,7 +90,7 @@ fn check_tree(
     tree: &Tree,
     views: &IndexMap<Name, View>,
 ) -> Result<Checked, NoMemory>
-    ensures { IfOk result (λ c. IsChecked true text.now stem.now (view_in (plain_views views.now.entries)) (tree_of tree.now) c.list.items c.imports.items (plain_view c.view)) }
+    ensures { IfOk result (λ c. IsChecked text.now stem.now (view_in (plain_views views.now.entries)) (tree_of tree.now) c.list.items c.imports.items (plain_view c.view)) }
 {
     let missing = View::Missing;
     let views = Views {

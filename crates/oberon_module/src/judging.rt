@@ -1,4 +1,4 @@
-ghost use Rattle.std.specs.Prelude.{◌≡◌, ◌++◌, [], true, map, IfOk, OnOk};
+ghost use Rattle.std.specs.Prelude.{◌≡◌, ◌++◌, [], map, IfOk, OnOk};
 ghost use Rattle.oberon_tree.specs.Memory.{module_tree};
 ghost use Rattle.oberon_types.specs.Entities.{missing_view};
 ghost use Rattle.oberon_types.specs.Memory.{plain_view};
@@ -28,7 +28,7 @@ pub fn judge<'a>(
     requires missing { plain_view views.missing.now ≡ missing_view }
     requires first { said.old.items ≡ [] }
     ensures is { IfOk result (λ scopes. plain_scopes scopes ≡ whole_scope me.now (views_of views.entry) (module_tree root.now)) }
-    ensures says { OnOk result (map plain_said said.new.items ≡ module_says true me.now (views_of views.entry) (module_tree root.now)) }
+    ensures says { OnOk result (map plain_said said.new.items ≡ module_says me.now (views_of views.entry) (module_tree root.now)) }
 {
     let scopes = judge_whole(alloc, me, views, root, said)?;
     unused(alloc, views, &root.imports, said)?;
@@ -45,7 +45,7 @@ fn judge_whole<'a>(
 ) -> Result<Scopes<'a>, NoMemory>
     requires { plain_view views.missing.now ≡ missing_view }
     ensures is { IfOk result (λ scopes. plain_scopes scopes ≡ whole_scope me.now (views_of views.entry) (module_tree root.now)) }
-    ensures says { OnOk result (map plain_said said.new.items ≡ map plain_said said.old.items ++ whole_says true me.now (views_of views.entry) (module_tree root.now)) }
+    ensures says { OnOk result (map plain_said said.new.items ≡ map plain_said said.old.items ++ whole_says me.now (views_of views.entry) (module_tree root.now)) }
 {
     add_row(
         said,

@@ -74,3 +74,29 @@ pub fn text_of(held: &Held) -> &[u8]
         Held::Absent | Held::TooLarge | Held::NotText => b"",
     }
 }
+
+/// An equal list.
+pub(crate) fn copied(alloc: Global, list: &[Diagnostic]) -> Result<Vec<Diagnostic>, NoMemory>
+    ensures { IfOk result (λ copy. copy.items ≡ list.now) }
+{
+    let mut copy = Vec::new(alloc);
+    for one in list {
+        copy.push(copied_one(alloc, one)?)?;
+    }
+    Ok(copy)
+}
+
+fn copied_one(alloc: Global, one: &Diagnostic) -> Result<Diagnostic, NoMemory>
+    ensures { IfOk result (λ copy. copy ≡ one.now) }
+{
+    let name = match &one.name {
+        Some(name) => Some(name.copy(alloc)?),
+        None => None,
+    };
+    Ok(Diagnostic {
+        span: one.span,
+        range: one.range,
+        code: one.code,
+        name,
+    })
+}

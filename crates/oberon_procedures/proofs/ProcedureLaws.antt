@@ -152,7 +152,7 @@ inside_is me s one two p sig procedure locals head signature declared =
     ∙ ap (λ (t : Scopes). with_globals h (declare_new t p.name.name (is_exported p.name) (procedure_meaning (signature_of me s p)))) (outside_again me s p procedure locals)
 
 -- what is said of it, step by step
-pub procedure_speaks : (me : List ℕ) (s one two three four : Scopes) (result : Option TyTree) (p : ProcedureTree) (rest : List Said) → s.procedure ≡ None → s.locals ≡ None → one ≡ head_behind me (entered s p.name.name.name) p.formals → two ≡ inside me s p → three ≡ inside_constants me s p → four ≡ inside_body me s p → result ≡ (signature_of me s p).result_type → head_says me (entered s p.name.name.name) p.formals (new_says (outside one) p.name.name (constants_declared me two (local_constants p.locals.constants) (variables_declared me three (local_variables p.locals.variables) (body_says me four p.body (return_says me four result p.returns p.end_name (end_row p.name.name p.end_name rest)))))) ≡ procedure_says true me s p rest
+pub procedure_speaks : (me : List ℕ) (s one two three four : Scopes) (result : Option TyTree) (p : ProcedureTree) (rest : List Said) → s.procedure ≡ None → s.locals ≡ None → one ≡ head_behind me (entered s p.name.name.name) p.formals → two ≡ inside me s p → three ≡ inside_constants me s p → four ≡ inside_body me s p → result ≡ (signature_of me s p).result_type → head_says me (entered s p.name.name.name) p.formals (new_says (outside one) p.name.name (constants_declared me two (local_constants p.locals.constants) (variables_declared me three (local_variables p.locals.variables) (body_says me four p.body (return_says me four result p.returns p.end_name (end_row p.name.name p.end_name rest)))))) ≡ procedure_says me s p rest
 procedure_speaks me s one two three four result p rest procedure locals head e f g h =
     let said = λ (t u v w : Scopes) (r : Option TyTree). head_says me (entered s p.name.name.name) p.formals (new_says t p.name.name (constants_declared me u (local_constants p.locals.constants) (variables_declared me v (local_variables p.locals.variables) (body_says me w p.body (return_says me w r p.returns p.end_name (end_row p.name.name p.end_name rest)))))) in
     ap (λ (t : Scopes). said (outside t) two three four result) head

@@ -1,4 +1,4 @@
-ghost use Rattle.std.specs.Prelude.{◌≡◌, true, map, None, IfOk, OnOk};
+ghost use Rattle.std.specs.Prelude.{◌≡◌, map, None, IfOk, OnOk};
 ghost use Rattle.std.specs.Option.{option_map};
 ghost use Rattle.oberon_tree.specs.Memory.{procedure_tree, procedure_item_tree, formals_tree, body_tree, return_tree};
 ghost use Rattle.oberon_types.specs.Memory.{plain_ty, plain_signature};
@@ -28,7 +28,7 @@ pub fn procedures<'a>(
 ) -> Result<(), NoMemory>
     requires { IsOutside (plain_scopes scopes.old) }
     ensures behind { OnOk result (plain_scopes scopes.new ≡ procedures_behind me.now (plain_scopes scopes.old) (map procedure_item_tree items.now)) }
-    ensures says { OnOk result (Adds said.old.items said.new.items (procedures_say true me.now (plain_scopes scopes.old) (map procedure_item_tree items.now))) }
+    ensures says { OnOk result (Adds said.old.items said.new.items (procedures_say me.now (plain_scopes scopes.old) (map procedure_item_tree items.now))) }
 {
     for item in items {
         procedure(alloc, me, scopes, &item.procedure, said)?;
@@ -45,7 +45,7 @@ fn procedure<'a>(
 ) -> Result<(), NoMemory>
     requires { IsOutside (plain_scopes scopes.old) }
     ensures behind { OnOk result (plain_scopes scopes.new ≡ procedure_behind me.now (plain_scopes scopes.old) (procedure_tree tree.now)) }
-    ensures says { OnOk result (Adds said.old.items said.new.items (procedure_says true me.now (plain_scopes scopes.old) (procedure_tree tree.now))) }
+    ensures says { OnOk result (Adds said.old.items said.new.items (procedure_says me.now (plain_scopes scopes.old) (procedure_tree tree.now))) }
     ensures outside { OnOk result (IsOutside (plain_scopes scopes.new)) }
 {
     let signature = enter(alloc, me, scopes, tree, said)?;

@@ -1,6 +1,6 @@
 -- A module by what it sees of its imports' entities is the module by all of them: so what is said of it, and its scope,
 -- look at nothing else of other modules.
-use Rattle.std.specs.Prelude.{ℕ, ◌≡◌, Bool, true, false, ◌&&◌, ◌||◌, not, List, [], ◌∷◌, ◌++◌, refl}
+use Rattle.std.specs.Prelude.{ℕ, ◌≡◌, true, false, ◌&&◌, ◌||◌, not, List, [], ◌∷◌, ◌++◌, refl}
 use Rattle.std.proofs.Common.{ap, ◌∙◌}
 use Rattle.ob_text.specs.declared.code.Code.TheVariants as codes_of
 use Rattle.oberon_tree.specs.declared.leaf.Ident.{Ident}
@@ -11,7 +11,7 @@ use Rattle.oberon_types.specs.Entities.{ViewTree, missing_view, broken_view, cyc
 use Rattle.oberon_rules.specs.Scopes.{import_meaning, Scopes, Said, row, named_row}
 use Rattle.oberon_rules.specs.Declarations.{new_says, decls_behind, decls_say}
 use Rattle.oberon_rules.specs.Procedures.{body_says, end_row, procedures_behind, procedures_say}
-use Rattle.oberon_rules.specs.Module.{import_list, imported, view_row, import_behind, imports_behind, imports_say, is_resolved, is_shown, is_unused, unused_say, start, with_imports, with_decls, whole_scope, module_body_says, inside_says, whole_says, with_unused, module_says}
+use Rattle.oberon_rules.specs.Module.{import_list, imported, view_row, import_behind, imports_behind, imports_say, is_resolved, is_shown, is_unused, unused_say, start, with_imports, with_decls, whole_scope, inside_says, whole_says, with_unused, module_says}
 use Rattle.oberon_rules.specs.Views.{map_view}
 use Rattle.oberon_rules.proofs.Seen.{seen}
 use Rattle.oberon_rules.proofs.AgreeNames.{map_scopes}
@@ -71,24 +71,22 @@ with_decls_seen me own views m = ap (λ y. decls_behind me y m.declarations) (wi
 pub whole_scope_seen : (me : List ℕ) → same_name me me ≡ true → (views : List ℕ → ViewTree) (m : ModuleTree) → whole_scope me (map_views (seen me) views) m ≡ map_scopes (seen me) (whole_scope me views m)
 whole_scope_seen me own views m = ap (λ y. procedures_behind me y m.procedures) (with_decls_seen me own views m) ∙ procedures_behind_seen me (with_decls me views m) m.procedures
 
-body_said_seen : (bodies : Bool) (me : List ℕ) → same_name me me ≡ true → (views : List ℕ → ViewTree) (m : ModuleTree) → module_body_says bodies me (map_views (seen me) views) m ≡ module_body_says bodies me views m
-body_said_seen true me own views m = ap (λ y. body_says me y m.body []) (whole_scope_seen me own views m) ∙ body_seen me (whole_scope me views m) m.body []
-body_said_seen false me own views m = refl
+body_said_seen : (me : List ℕ) → same_name me me ≡ true → (views : List ℕ → ViewTree) (m : ModuleTree) → body_says me (whole_scope me (map_views (seen me) views) m) m.body [] ≡ body_says me (whole_scope me views m) m.body []
+body_said_seen me own views m = ap (λ y. body_says me y m.body []) (whole_scope_seen me own views m) ∙ body_seen me (whole_scope me views m) m.body []
 
-inside_says_seen : (bodies : Bool) (me : List ℕ) → same_name me me ≡ true → (views : List ℕ → ViewTree) (m : ModuleTree) → inside_says bodies me (map_views (seen me) views) m ≡ inside_says bodies me views m
-inside_says_seen bodies me own views m =
-    ap (λ y. imports_say (map_views (seen me) views) start (import_list m.imports) (decls_say me (with_imports (map_views (seen me) views) m) m.declarations (procedures_say bodies me (with_decls me (map_views (seen me) views) m) m.procedures y))) (body_said_seen bodies me own views m)
-    ∙ ap (λ y. imports_say (map_views (seen me) views) start (import_list m.imports) (decls_say me (with_imports (map_views (seen me) views) m) m.declarations (procedures_say bodies me y m.procedures (module_body_says bodies me views m)))) (with_decls_seen me own views m)
-    ∙ ap (λ y. imports_say (map_views (seen me) views) start (import_list m.imports) (decls_say me (with_imports (map_views (seen me) views) m) m.declarations y)) (procedures_say_seen bodies me (with_decls me views m) own m.procedures (module_body_says bodies me views m))
-    ∙ ap (λ y. imports_say (map_views (seen me) views) start (import_list m.imports) (decls_say me y m.declarations (procedures_say bodies me (with_decls me views m) m.procedures (module_body_says bodies me views m)))) (with_imports_seen me views m)
-    ∙ ap (λ y. imports_say (map_views (seen me) views) start (import_list m.imports) y) (decls_say_seen me (with_imports views m) own m.declarations (procedures_say bodies me (with_decls me views m) m.procedures (module_body_says bodies me views m)))
-    ∙ imports_say_seen (seen me) views start (import_list m.imports) (decls_say me (with_imports views m) m.declarations (procedures_say bodies me (with_decls me views m) m.procedures (module_body_says bodies me views m)))
+inside_says_seen : (me : List ℕ) → same_name me me ≡ true → (views : List ℕ → ViewTree) (m : ModuleTree) → inside_says me (map_views (seen me) views) m ≡ inside_says me views m
+inside_says_seen me own views m =
+    ap (λ y. imports_say (map_views (seen me) views) start (import_list m.imports) (decls_say me (with_imports (map_views (seen me) views) m) m.declarations (procedures_say me (with_decls me (map_views (seen me) views) m) m.procedures y))) (body_said_seen me own views m)
+    ∙ ap (λ y. imports_say (map_views (seen me) views) start (import_list m.imports) (decls_say me (with_imports (map_views (seen me) views) m) m.declarations (procedures_say me y m.procedures (body_says me (whole_scope me views m) m.body [])))) (with_decls_seen me own views m)
+    ∙ ap (λ y. imports_say (map_views (seen me) views) start (import_list m.imports) (decls_say me (with_imports (map_views (seen me) views) m) m.declarations y)) (procedures_say_seen me (with_decls me views m) own m.procedures (body_says me (whole_scope me views m) m.body []))
+    ∙ ap (λ y. imports_say (map_views (seen me) views) start (import_list m.imports) (decls_say me y m.declarations (procedures_say me (with_decls me views m) m.procedures (body_says me (whole_scope me views m) m.body [])))) (with_imports_seen me views m)
+    ∙ ap (λ y. imports_say (map_views (seen me) views) start (import_list m.imports) y) (decls_say_seen me (with_imports views m) own m.declarations (procedures_say me (with_decls me views m) m.procedures (body_says me (whole_scope me views m) m.body [])))
+    ∙ imports_say_seen (seen me) views start (import_list m.imports) (decls_say me (with_imports views m) m.declarations (procedures_say me (with_decls me views m) m.procedures (body_says me (whole_scope me views m) m.body [])))
 
-with_unused_seen : (bodies : Bool) (h : TyTree → TyTree) (views : List ℕ → ViewTree) (m : ModuleTree) (said : List Said) → with_unused bodies (map_views h views) m said ≡ with_unused bodies views m said
-with_unused_seen true h views m said = ap (λ xs. said ++ xs) (unused_seen h views start (import_list m.imports) said [])
-with_unused_seen false h views m said = refl
+with_unused_seen : (h : TyTree → TyTree) (views : List ℕ → ViewTree) (m : ModuleTree) (said : List Said) → with_unused (map_views h views) m said ≡ with_unused views m said
+with_unused_seen h views m said = ap (λ xs. said ++ xs) (unused_seen h views start (import_list m.imports) said [])
 
-pub module_says_seen : (bodies : Bool) (me : List ℕ) → same_name me me ≡ true → (views : List ℕ → ViewTree) (m : ModuleTree) → module_says bodies me (map_views (seen me) views) m ≡ module_says bodies me views m
-module_says_seen bodies me own views m =
-    ap (λ y. with_unused bodies (map_views (seen me) views) m (row (not (same_name m.name.name me)) m.name.span codes_of.ModuleName (end_row m.name m.end_name y))) (inside_says_seen bodies me own views m)
-    ∙ with_unused_seen bodies (seen me) views m (whole_says bodies me views m)
+pub module_says_seen : (me : List ℕ) → same_name me me ≡ true → (views : List ℕ → ViewTree) (m : ModuleTree) → module_says me (map_views (seen me) views) m ≡ module_says me views m
+module_says_seen me own views m =
+    ap (λ y. with_unused (map_views (seen me) views) m (row (not (same_name m.name.name me)) m.name.span codes_of.ModuleName (end_row m.name m.end_name y))) (inside_says_seen me own views m)
+    ∙ with_unused_seen (seen me) views m (whole_says me views m)

@@ -1,5 +1,5 @@
 -- What procedures declare with what is seen, and what is said of them, is what it is with all.
-use Rattle.std.specs.Prelude.{ℕ, ◌≡◌, ◌++◌, Bool, true, false, not, if◌then◌else◌, List, [], ◌∷◌, map, Option, Some, None, refl}
+use Rattle.std.specs.Prelude.{ℕ, ◌≡◌, ◌++◌, Bool, true, not, if◌then◌else◌, List, [], ◌∷◌, map, Option, Some, None, refl}
 use Rattle.std.proofs.Common.{ap, ◌∙◌}
 use Rattle.std.specs.Option.{option_map}
 use Rattle.ob_text.specs.declared.code.Code.TheVariants as codes_of
@@ -13,7 +13,7 @@ use Rattle.oberon_rules.specs.Names.{type_named, type_named_says, last_name}
 use Rattle.oberon_rules.specs.Expressions.{ty_of, expr_is}
 use Rattle.oberon_rules.specs.ExpressionRules.{value_says}
 use Rattle.oberon_rules.specs.Declarations.{is_exported, declare_new, new_says, constants_behind, constants_declared, variables_behind, variables_declared}
-use Rattle.oberon_rules.specs.Procedures.{idents, by_var, section_is, section_behind, section_params, sections_of, sections_behind, sections_say, sections_params, is_no_result, result_is, result_says, head_behind, signature_is, head_says, local_constants, local_variables, entered, with_globals, body_says, return_says, end_row, signature_of, procedure_behind, inside, inside_constants, inside_body, work_says, procedure_says, procedures_behind, procedures_say}
+use Rattle.oberon_rules.specs.Procedures.{idents, by_var, section_is, section_behind, section_params, sections_of, sections_behind, sections_say, sections_params, is_no_result, result_is, result_says, head_behind, signature_is, head_says, local_constants, local_variables, entered, with_globals, body_says, return_says, end_row, signature_of, procedure_behind, inside, inside_constants, inside_body, procedure_says, procedures_behind, procedures_say}
 use Rattle.oberon_rules.specs.Views.{map_param, map_signature}
 use Rattle.oberon_rules.proofs.Seen.{seen, assignable_seen}
 use Rattle.oberon_rules.proofs.AgreeNames.{choose, map_scopes, seen_scopes}
@@ -133,13 +133,9 @@ behind_body_seen me s own p rest =
     ∙ ap (λ y. body_says me (map_scopes (seen me) (inside_body me s p)) p.body y) (return_seen me (inside_body me s p) (signature_of me s p).result_type p.returns p.end_name rest)
     ∙ body_seen me (inside_body me s p) p.body (return_says me (inside_body me s p) (signature_of me s p).result_type p.returns p.end_name rest)
 
-work_seen : (bodies : Bool) (me : List ℕ) (s : Scopes) → same_name me me ≡ true → (p : ProcedureTree) (rest : List Said) → work_says bodies me (seen_scopes me s) p rest ≡ work_says bodies me s p rest
-work_seen true me s own p rest = behind_body_seen me s own p rest
-work_seen false me s own p rest = refl
-
-procedure_says_seen : (bodies : Bool) (me : List ℕ) (s : Scopes) → same_name me me ≡ true → (p : ProcedureTree) (rest : List Said) → procedure_says bodies me (seen_scopes me s) p rest ≡ procedure_says bodies me s p rest
-procedure_says_seen bodies me s own p rest =
-    ap (λ y. head_says me (entered (seen_scopes me s) p.name.name.name) p.formals (new_says (seen_scopes me s) p.name.name (constants_declared me (inside me (seen_scopes me s) p) (local_constants p.locals.constants) (variables_declared me (inside_constants me (seen_scopes me s) p) (local_variables p.locals.variables) y)))) (work_seen bodies me s own p (end_row p.name.name p.end_name rest))
+procedure_says_seen : (me : List ℕ) (s : Scopes) → same_name me me ≡ true → (p : ProcedureTree) (rest : List Said) → procedure_says me (seen_scopes me s) p rest ≡ procedure_says me s p rest
+procedure_says_seen me s own p rest =
+    ap (λ y. head_says me (entered (seen_scopes me s) p.name.name.name) p.formals (new_says (seen_scopes me s) p.name.name (constants_declared me (inside me (seen_scopes me s) p) (local_constants p.locals.constants) (variables_declared me (inside_constants me (seen_scopes me s) p) (local_variables p.locals.variables) y)))) (behind_body_seen me s own p (end_row p.name.name p.end_name rest))
     ∙ ap (λ y. head_says me (entered (seen_scopes me s) p.name.name.name) p.formals (new_says (seen_scopes me s) p.name.name (constants_declared me (inside me (seen_scopes me s) p) (local_constants p.locals.constants) (variables_declared me y (local_variables p.locals.variables) (last me s p rest))))) (inside_constants_seen me s p)
     ∙ ap (λ y. head_says me (entered (seen_scopes me s) p.name.name.name) p.formals (new_says (seen_scopes me s) p.name.name (constants_declared me (inside me (seen_scopes me s) p) (local_constants p.locals.constants) y))) (variables_declared_seen me (inside_constants me s p) own (local_variables p.locals.variables) (last me s p rest))
     ∙ ap (λ y. head_says me (entered (seen_scopes me s) p.name.name.name) p.formals (new_says (seen_scopes me s) p.name.name (constants_declared me y (local_constants p.locals.constants) (variables_declared me (inside_constants me s p) (local_variables p.locals.variables) (last me s p rest))))) (inside_seen me s p)
@@ -148,15 +144,15 @@ procedure_says_seen bodies me s own p rest =
     ∙ head_says_seen me (entered s p.name.name.name) p.formals (new_says s p.name.name (constants_declared me (inside me s p) (local_constants p.locals.constants) (variables_declared me (inside_constants me s p) (local_variables p.locals.variables) (last me s p rest))))
   where
     last : List ℕ → Scopes → ProcedureTree → List Said → List Said
-    last me s p rest = work_says bodies me s p (end_row p.name.name p.end_name rest)
+    last me s p rest = body_says me (inside_body me s p) p.body (return_says me (inside_body me s p) (signature_of me s p).result_type p.returns p.end_name (end_row p.name.name p.end_name rest))
 
 pub procedures_behind_seen : (me : List ℕ) (s : Scopes) (xs : List ProcedureItemTree) → procedures_behind me (seen_scopes me s) xs ≡ map_scopes (seen me) (procedures_behind me s xs)
 procedures_behind_seen me s [] = refl
 procedures_behind_seen me s (x ∷ xs) = ap (λ y. procedures_behind me y xs) (procedure_behind_seen me s x.procedure) ∙ procedures_behind_seen me (procedure_behind me s x.procedure) xs
 
-pub procedures_say_seen : (bodies : Bool) (me : List ℕ) (s : Scopes) → same_name me me ≡ true → (xs : List ProcedureItemTree) (rest : List Said) → procedures_say bodies me (seen_scopes me s) xs rest ≡ procedures_say bodies me s xs rest
-procedures_say_seen bodies me s own [] rest = refl
-procedures_say_seen bodies me s own (x ∷ xs) rest =
-    procedure_says_seen bodies me s own x.procedure (procedures_say bodies me (procedure_behind me (seen_scopes me s) x.procedure) xs rest)
-    ∙ ap (λ y. procedure_says bodies me s x.procedure (procedures_say bodies me y xs rest)) (procedure_behind_seen me s x.procedure)
-    ∙ ap (λ y. procedure_says bodies me s x.procedure y) (procedures_say_seen bodies me (procedure_behind me s x.procedure) own xs rest)
+pub procedures_say_seen : (me : List ℕ) (s : Scopes) → same_name me me ≡ true → (xs : List ProcedureItemTree) (rest : List Said) → procedures_say me (seen_scopes me s) xs rest ≡ procedures_say me s xs rest
+procedures_say_seen me s own [] rest = refl
+procedures_say_seen me s own (x ∷ xs) rest =
+    procedure_says_seen me s own x.procedure (procedures_say me (procedure_behind me (seen_scopes me s) x.procedure) xs rest)
+    ∙ ap (λ y. procedure_says me s x.procedure (procedures_say me y xs rest)) (procedure_behind_seen me s x.procedure)
+    ∙ ap (λ y. procedure_says me s x.procedure y) (procedures_say_seen me (procedure_behind me s x.procedure) own xs rest)

@@ -1,5 +1,5 @@
 -- There is one list of the same diagnostics in their order.
-use Rattle.std.proofs.Common.{◌≡◌, ◌<◌, ◌⊎◌, inl, inr, ℕ, zero, suc, Bool, true, false, ◌&&◌, ◌==◌, nat_lt, IsTrue, List, [], ◌∷◌, Option, Some, None, Contains, AllPairs, ◌↔◌, refl, sym, ◌∙◌, ap, subst, arith, ⊎_elim}
+use Rattle.std.proofs.Common.{◌≡◌, ◌<◌, ◌⊎◌, inl, inr, ℕ, zero, suc, Bool, ◌&&◌, ◌==◌, nat_lt, IsTrue, List, [], ◌∷◌, Option, Some, None, Contains, AllPairs, ◌↔◌, refl, sym, ◌∙◌, ap, subst, arith, ⊎_elim}
 use Rattle.std.proofs.lemmas.Bool.{or_cases, and_parts, ltb-true, eqb-true, true≢false}
 use Rattle.ob_text.specs.declared.diagnostic.Diagnostic.{Diagnostic}
 use Rattle.oberon_rules.specs.Order.{name_before, name_option_before, number_of, less_or, before, IsListed}

@@ -1,5 +1,5 @@
 -- Short words for the trees of the rows, and the list that a module has, without ranges.
-use Rattle.std.specs.Prelude.{ℕ, ◌+◌, true, if◌then◌else◌, List, [], ◌∷◌, length, Option, Some, None, ℤ}
+use Rattle.std.specs.Prelude.{ℕ, ◌+◌, if◌then◌else◌, List, [], ◌∷◌, length, Option, Some, None, ℤ}
 use Rattle.ob_text.specs.declared.code.Code.{Code}
 use Rattle.ob_text.specs.declared.diagnostic.Diagnostic.{Diagnostic}
 use Rattle.ob_text.specs.declared.span.Span.{Span}
@@ -73,4 +73,4 @@ rows [] = []
 rows (d ∷ ds) = record { start = d.span.start; end = d.span.end; number = number_of d.code; name = d.name } ∷ rows ds
 
 abbrev pub rows_of : List ℕ → (List ℕ → ViewTree) → ModuleTree → List Row
-rows_of me views m = rows (listed (all_said true me views m))
+rows_of me views m = rows (listed (all_said me views m))

@@ -19,8 +19,8 @@ found text (broken place code name ∷ rest) = record { span = place; range = ra
 found text (resolved x ∷ rest) = found text rest
 
 -- the weight of the interface is judged beside all other rules, of the exports that aren't unknown
-abbrev pub all_said : Bool → List ℕ → (List ℕ → ViewTree) → ModuleTree → List Said
-all_said bodies me views m = row (is_interface_too_large (exported_in (whole_scope me views m).globals)) m.name.span codes_of.InterfaceTooLarge (module_says bodies me views m)
+abbrev pub all_said : List ℕ → (List ℕ → ViewTree) → ModuleTree → List Said
+all_said me views m = row (is_interface_too_large (exported_in (whole_scope me views m).globals)) m.name.span codes_of.InterfaceTooLarge (module_says me views m)
 
 abbrev pub is_error : Severity → Bool
 is_error severities.Error = true
@@ -32,5 +32,5 @@ has_error (broken place code name ∷ rest) = is_error (severity_of code) || has
 has_error (resolved x ∷ rest) = has_error rest
 
 -- what the module exports, each type whole
-abbrev pub declared_view : Bool → List ℕ → (List ℕ → ViewTree) → ModuleTree → ViewTree
-declared_view bodies me views m = if has_error (all_said bodies me views m) then broken_view else exports_view (exported_in (whole_scope me views m).globals)
+abbrev pub declared_view : List ℕ → (List ℕ → ViewTree) → ModuleTree → ViewTree
+declared_view me views m = if has_error (all_said me views m) then broken_view else exports_view (exported_in (whole_scope me views m).globals)

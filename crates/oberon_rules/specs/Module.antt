@@ -1,6 +1,6 @@
 -- A module (section 11) by the views of its imports: its scope, and what is said of it. `me` is its stem, and `views`
 -- gives for each imported module its view.
-use Rattle.std.specs.Prelude.{ℕ, Bool, true, false, ◌&&◌, ◌||◌, not, if◌then◌else◌, List, [], ◌∷◌, ◌++◌, map, Option, Some, None}
+use Rattle.std.specs.Prelude.{ℕ, Bool, true, false, ◌&&◌, ◌||◌, not, List, [], ◌∷◌, ◌++◌, map, Option, Some, None}
 use Rattle.ob_text.specs.declared.code.Code.TheVariants as codes_of
 use Rattle.oberon_tree.specs.declared.leaf.Ident.{Ident}
 use Rattle.oberon_tree.specs.declared.module.Alias.{Alias}
@@ -76,28 +76,23 @@ with_decls me views m = decls_behind me (with_imports views m) m.declarations
 abbrev pub whole_scope : List ℕ → (List ℕ → ViewTree) → ModuleTree → Scopes
 whole_scope me views m = procedures_behind me (with_decls me views m) m.procedures
 
--- `bodies`: whether statements, RETURN and the use of imports are judged
-
-abbrev pub module_body_says : Bool → List ℕ → (List ℕ → ViewTree) → ModuleTree → List Said
-module_body_says bodies me views m = if bodies then body_says me (whole_scope me views m) m.body [] else []
-
-abbrev pub inside_says : Bool → List ℕ → (List ℕ → ViewTree) → ModuleTree → List Said
-inside_says bodies me views m =
+abbrev pub inside_says : List ℕ → (List ℕ → ViewTree) → ModuleTree → List Said
+inside_says me views m =
     imports_say views start (import_list m.imports)
     (decls_say me (with_imports views m) m.declarations
-    (procedures_say bodies me (with_decls me views m) m.procedures
-    (module_body_says bodies me views m)))
+    (procedures_say me (with_decls me views m) m.procedures
+    (body_says me (whole_scope me views m) m.body [])))
 
 -- the module with its name, and what is said inside of it
-abbrev pub whole_says : Bool → List ℕ → (List ℕ → ViewTree) → ModuleTree → List Said
-whole_says bodies me views m =
+abbrev pub whole_says : List ℕ → (List ℕ → ViewTree) → ModuleTree → List Said
+whole_says me views m =
     row (not (same_name m.name.name me)) m.name.span codes_of.ModuleName
     (end_row m.name m.end_name
-    (inside_says bodies me views m))
+    (inside_says me views m))
 
 -- which imports nothing uses, by all that is said
-abbrev pub with_unused : Bool → (List ℕ → ViewTree) → ModuleTree → List Said → List Said
-with_unused bodies views m said = if bodies then said ++ unused_say views start (import_list m.imports) said [] else said
+abbrev pub with_unused : (List ℕ → ViewTree) → ModuleTree → List Said → List Said
+with_unused views m said = said ++ unused_say views start (import_list m.imports) said []
 
-abbrev pub module_says : Bool → List ℕ → (List ℕ → ViewTree) → ModuleTree → List Said
-module_says bodies me views m = with_unused bodies views m (whole_says bodies me views m)
+abbrev pub module_says : List ℕ → (List ℕ → ViewTree) → ModuleTree → List Said
+module_says me views m = with_unused views m (whole_says me views m)

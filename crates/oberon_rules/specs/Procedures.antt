@@ -193,23 +193,20 @@ inside_constants me s p = constants_behind me (inside me s p) (local_constants p
 abbrev pub inside_body : List ℕ → Scopes → ProcedureTree → Scopes
 inside_body me s p = variables_behind me (inside_constants me s p) (local_variables p.locals.variables)
 
--- `bodies`: whether statements and RETURN are judged
-abbrev pub work_says : Bool → List ℕ → Scopes → ProcedureTree → List Said → List Said
-work_says bodies me s p rest = if bodies then body_says me (inside_body me s p) p.body (return_says me (inside_body me s p) (signature_of me s p).result_type p.returns p.end_name rest) else rest
-
-abbrev pub procedure_says : Bool → List ℕ → Scopes → ProcedureTree → List Said → List Said
-procedure_says bodies me s p rest =
+abbrev pub procedure_says : List ℕ → Scopes → ProcedureTree → List Said → List Said
+procedure_says me s p rest =
     head_says me (entered s p.name.name.name) p.formals
     (new_says s p.name.name
     (constants_declared me (inside me s p) (local_constants p.locals.constants)
     (variables_declared me (inside_constants me s p) (local_variables p.locals.variables)
-    (work_says bodies me s p
-    (end_row p.name.name p.end_name rest)))))
+    (body_says me (inside_body me s p) p.body
+    (return_says me (inside_body me s p) (signature_of me s p).result_type p.returns p.end_name
+    (end_row p.name.name p.end_name rest))))))
 
 abbrev pub procedures_behind : List ℕ → Scopes → List ProcedureItemTree → Scopes
 procedures_behind me s [] = s
 procedures_behind me s (x ∷ xs) = procedures_behind me (procedure_behind me s x.procedure) xs
 
-abbrev pub procedures_say : Bool → List ℕ → Scopes → List ProcedureItemTree → List Said → List Said
-procedures_say bodies me s [] rest = rest
-procedures_say bodies me s (x ∷ xs) rest = procedure_says bodies me s x.procedure (procedures_say bodies me (procedure_behind me s x.procedure) xs rest)
+abbrev pub procedures_say : List ℕ → Scopes → List ProcedureItemTree → List Said → List Said
+procedures_say me s [] rest = rest
+procedures_say me s (x ∷ xs) rest = procedure_says me s x.procedure (procedures_say me (procedure_behind me s x.procedure) xs rest)

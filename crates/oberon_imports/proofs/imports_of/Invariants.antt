@@ -1,4 +1,4 @@
-use Rattle.std.proofs.Common.{◌≡◌, ◌==◌, List, ℕ, take, map, fold}
+use Rattle.std.proofs.Common.{◌≡◌, ◌==◌, take, map, fold}
 use Rattle.std.specs.Cmp.Lexicographic.{pointwise}
 use Rattle.oberon_tree.specs.declared.module.NextImport.{NextImport}
 use Rattle.ob_text.specs.Once.{once_more}

@@ -1,4 +1,4 @@
-use Rattle.std.specs.Prelude.{◌++◌, true, List, [], map}
+use Rattle.std.specs.Prelude.{◌++◌, List, [], map}
 use Rattle.std.proofs.Common.{ap, ◌∙◌}
 use Rattle.oberon_tree.specs.Memory.{module_tree}
 use Rattle.oberon_infer.specs.declared.said.Said.{Said as OwnSaid}
@@ -14,5 +14,5 @@ returns-clause-says c =
     let views = views_of c.args.views in
     let m = module_tree c.args.root.now in
     module_spoken me views m (map plain_said c.judge_whole.new.said.items) (map plain_said c.unused.new.said.items)
-    (c.in_ok-scopes.ensures.says ∙ ap (λ (xs : List OwnSaid). map plain_said xs ++ whole_says true me views m) c.requires.first)
+    (c.in_ok-scopes.ensures.says ∙ ap (λ (xs : List OwnSaid). map plain_said xs ++ whole_says me views m) c.requires.first)
     (c.in_ok-unused.ensures.goes [])
