@@ -1,7 +1,8 @@
 -- What a name means to the modules of a target.
-use Rattle.std.proofs.Common.{◌≡◌, ℕ, ◌<◌, Bool, List, [], ◌∷◌, length, get_or, Option, Some, None, IfSome, IfNone, All, Contains, ap, sym, subst, ◌∙◌, arith}
+use Rattle.std.proofs.Common.{◌≡◌, ◌⊎◌, inl, inr, ℕ, ◌<◌, Bool, List, [], ◌∷◌, length, get_or, Option, Some, None, IfSome, IfNone, All, Contains, ap, sym, subst, ◌∙◌, arith}
 use Rattle.std.specs.List.{position}
 use Rattle.std.specs.Str.{bytes_eq}
+use Rattle.std.proofs.lemmas.Bool.{cases_order}
 use Rattle.std.proofs.lemmas.List.{get_or_default, length-map}
 use Rattle.std.proofs.lemmas.List.Elements.{All-contains, Contains-get_or}
 use Rattle.std.proofs.lemmas.List.Quantifiers.{position-Some}
@@ -9,6 +10,7 @@ use Rattle.std.proofs.lemmas.Option.{slice_get_within}
 use Rattle.std.proofs.lemmas.Slice.Eq.{bytes_eq-Decides}
 use Rattle.target_graph.specs.declared.target.Pair.{Pair}
 use Rattle.target_graph.specs.declared.target.Target.{Target}
+use Rattle.target_graph.specs.Faults.{IsRepeat}
 use Rattle.target_graph.specs.Names.{stem}
 use Rattle.target_graph.specs.Workspace.{pairs_of, stems_of, stem_at, Sees, IsVisible}
 use Rattle.target_graph.specs.Stems.{IsNumbering, AreGroups, IsSeen}
@@ -63,3 +65,19 @@ group_within targets keys numbers groups number n g = λ k d h.
     let group = get_or groups number [] in
     let in' = (g.each number (get_or group k d) (Contains-get_or group k d h)).0 in
     omega (arith, in', n.size, length-map (pairs_of targets) (λ (x : Pair). stem x.path))
+
+-- a pair of the same name that stands behind another repeats its stem
+visible_repeats : (targets : List Target) (t : ℕ) (name : List ℕ) (p q : ℕ) → p < q → IsVisible targets t name p → IsVisible targets t name q → IsRepeat targets t q
+visible_repeats targets t name p q before first second =
+    record { earlier = p; before = before; sees_earlier = first.sees; sees = second.sees; same = first.named ∙ sym second.named }
+
+-- where no stem repeats, a name means one pair
+pub one_visible : (targets : List Target) (t : ℕ) (name : List ℕ) (found : Option ℕ) → ((t q : ℕ) → ¬ (IsRepeat targets t q)) → IfSome found (IsVisible targets t name)
+    → IfSome found (λ pair. (other : ℕ) → IsVisible targets t name other → other ≡ pair)
+one_visible targets t name None once visible = tt
+one_visible targets t name (Some pair) once visible = λ other v. by_order other v (cases_order other pair)
+  where
+    by_order : (other : ℕ) → IsVisible targets t name other → (other ≡ pair) ⊎ ((other < pair) ⊎ (pair < other)) → other ≡ pair
+    by_order other v (inl same) = same
+    by_order other v (inr (inl before)) = absurd (once t pair (visible_repeats targets t name other pair before v visible))
+    by_order other v (inr (inr behind)) = absurd (once t other (visible_repeats targets t name pair other behind visible v))

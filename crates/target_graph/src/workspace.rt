@@ -139,6 +139,8 @@ impl Workspace {
         ensures pairs { result.now ≡ pairs_of self.now.targets }
         ensures few { length result.now ≤ pairs_limit }
         ensures within { All (λ pair. pair.target < length self.now.targets) result.now }
+        // Each path is a module's path, as `stem_of` wants it.
+        ensures valid { All (λ pair. is_path pair.path ≡ true) result.now }
         // Two with one address of their documents have different ids of their targets.
         ensures distinct { AllPairs (λ p q. document_address self.now.root p.path
             ≡ document_address self.now.root q.path → id_of self.now p.target
@@ -163,6 +165,9 @@ impl Workspace {
     pub fn visible(&self, target: u32, name: &Name) -> Option<u32>
         requires { target < length self.now.targets }
         ensures some { IfSome result (IsVisible self.now.targets target name.now) }
+        // No other pair has the name.
+        ensures one { IfSome result (λ pair. (other : ℕ) → IsVisible self.now.targets target
+            name.now other → other ≡ pair) }
         ensures none { IfNone result ((pair : ℕ) → ¬ (IsVisible self.now.targets target name.now
             pair)) }
     {

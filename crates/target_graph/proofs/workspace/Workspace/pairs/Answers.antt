@@ -1,8 +1,9 @@
-use Rattle.std.proofs.Common.{◌≡◌, ◌≢◌, ◌<◌, ℕ, List, length, All, ap, sym, subst, ◌∙◌}
+use Rattle.std.proofs.Common.{◌≡◌, ◌≢◌, ◌<◌, ℕ, List, length, All, true, ap, sym, subst, ◌∙◌}
 use Rattle.std.specs.List.{AllPairs}
 use Rattle.target_graph.specs.declared.target.Pair.{Pair}
-use Rattle.target_graph.specs.Workspace.{Space, pairs_of}
-use Rattle.target_graph.proofs.PairLaws.{pairs_within}
+use Rattle.target_graph.specs.Names.{is_path}
+use Rattle.target_graph.specs.Workspace.{Space, pairs_of, AreValid}
+use Rattle.target_graph.proofs.PairLaws.{pairs_valid, pairs_within}
 use Rattle.target_graph.proofs.Distinct.{AreApart, pairs_apart}
 use Rattle.target_graph.proofs.workspace.Workspace.pairs.Goals as goal
 
@@ -12,6 +13,13 @@ returns-clause-within c =
     let ts = ap (λ (s : Space). s.targets) c.self.view_is in
     let ps : c.as_slice.result.now ≡ pairs_of targets = c.as_slice.ensures.value ∙ (c.self.invariant.pairs ∙ ap pairs_of ts) in
     subst (λ (xs : List Pair). All (λ pair. pair.target < length targets) xs) (sym ps) (pairs_within targets)
+
+pub returns-clause-valid : goal.returns-clause-valid
+returns-clause-valid c =
+    let targets = c.args.self.now.targets in
+    let ts = ap (λ (s : Space). s.targets) c.self.view_is in
+    let ps : c.as_slice.result.now ≡ pairs_of targets = c.as_slice.ensures.value ∙ (c.self.invariant.pairs ∙ ap pairs_of ts) in
+    subst (λ (xs : List Pair). All (λ pair. is_path pair.path ≡ true) xs) (sym ps) (pairs_valid targets (subst AreValid ts c.self.invariant.sound.valid))
 
 pub returns-clause-distinct : goal.returns-clause-distinct
 returns-clause-distinct c =

@@ -8,7 +8,7 @@ use Rattle.target_graph.specs.declared.target.Target.{Target}
 use Rattle.target_graph.proofs.Listed.{listed_any}
 use Rattle.target_graph.proofs.PairLaws.{pairs_within}
 use Rattle.target_graph.proofs.InMemory.{lists_size, list_at, row_marks}
-use Rattle.target_graph.proofs.Visible.{group_shows, group_within, not_visible, key_found}
+use Rattle.target_graph.proofs.Visible.{group_shows, group_within, not_visible, key_found, one_visible}
 use Rattle.target_graph.proofs.workspace.Workspace.visible.Goals as goal
 
 pub first_seen-requires-clause-group : goal.first_seen-requires-clause-group
@@ -62,6 +62,8 @@ returns-in-Some c =
     (subst (λ (qs : List ℕ). IfNone c.first_seen.result (All (λ q. ¬ (IsSeen marks c.as_slice-in-Some.result.now q)) qs)) (sym group) c.first_seen.ensures.none)) in
     record {
       some = subst (λ (xs : List Target). IfSome c.first_seen.result (IsVisible xs target c.args.name.now)) ts both.0;
+      one = subst (λ (xs : List Target). IfSome c.first_seen.result (λ p. (q : ℕ) → IsVisible xs target c.args.name.now q → q ≡ p)) ts
+          (one_visible w.targets.items target c.args.name.now c.first_seen.result kept.once both.0);
       none = subst (λ (xs : List Target). IfNone c.first_seen.result ((q : ℕ) → ¬ (IsVisible xs target c.args.name.now q))) ts both.1;
     }
 
