@@ -1,8 +1,8 @@
 -- How long records print at most.
 use Rattle.std.proofs.Common.{◌≡◌, ◌≤◌, ◌<◌, ◌+◌, ◌*◌, ◌/◌, ◌%◌, ◌++◌, ◌∙◌, ℕ, suc, List, [], ◌∷◌, length, map, flat_map, take, Bool, true, false, cond, ltb, Option, Some, None, option_map, lit≤, sym, ap, subst, arith, length-append}
 use Rattle.std.specs.Prelude.{codes}
-use Rattle.std.specs.Char.{digit_char}
-use Rattle.std.specs.List.{All}
+use Rattle.std.specs.Char.{digit_char, is_ascii}
+use Rattle.std.specs.List.{All, prefix_len}
 use Rattle.std.specs.Option.{IfSome}
 use Rattle.std.specs.Ordering.{match_ordering, nat_cmp}
 use Rattle.std.specs.declared.cmp.Ordering.{Ordering}
@@ -27,7 +27,7 @@ use Rattle.bsp_records.specs.Identifiers.{identifier_data}
 use Rattle.ob_text.specs.Ascii.{IsWithin}
 use Rattle.bsp_address.specs.Address.{address_limit, IsAddress}
 use Rattle.bsp_records.specs.Short.{IsShortPosition, IsShortRecord, IsShortPublication, publication_limit}
-use Rattle.bsp_records.specs.Shown.{shown, shown_message}
+use Rattle.bsp_records.specs.Shown.{name_shown, shown, shown_message}
 use Rattle.bsp_records.specs.Writing.{with_member, with_members, object_with, array_with}
 use Rattle.bsp_records.specs.declared.diagnostics.DiagnosticRecord.{DiagnosticRecord}
 use Rattle.bsp_records.specs.declared.diagnostics.DiagnosticSeverity.{DiagnosticSeverity}
@@ -246,12 +246,15 @@ unfolding message_of
 text_of_code_short DocumentAbsent = lit≤ tt
 text_of_code_short _ = lit≤ tt
 
+name_within : (name : Option (List ℕ)) → IsWithin 64 (name_shown name)
+name_within None = lit≤ tt
+name_within (Some name) =
+    let whole = length-take 64 name in
+    let front = length-take (prefix_len is_ascii (take 64 name)) (take 64 name) in
+    omega (arith, whole, front)
+
 message_short : (text : List ℕ) (name : Option (List ℕ)) → IsWithin 60 text → IsWithin 200 (shown_message text name)
-message_short text None short = omega arith
-message_short text (Some name) short =
-    let whole = length-append text (take 64 name) in
-    let front = length-take 64 name in
-    omega arith
+message_short text name short = omega (arith, length-append text (name_shown name), name_within name)
 
 pub shown_short : (d : Diagnostic) (r : DiagnosticRecord) → r ≡ shown d → IsShortPosition d.range.start → IsShortPosition d.range.end → IsShortRecord r
 shown_short d r is start end =

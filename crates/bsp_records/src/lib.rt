@@ -46,7 +46,7 @@ pub use results::{
     write_compile_result, write_inverse_sources_result, write_run_result, write_sources_result,
     write_test_result,
 };
-pub use shown::{show, show_all};
+pub use shown::{name_shown, show, show_all};
 pub use tasks::{
     CompileReport, CompileTask, TaskFinishBody, TaskFinishParams, TaskId, TaskStartBody,
     TaskStartParams, TestFinish, TestReport, TestStart, TestStatus, TestTask,

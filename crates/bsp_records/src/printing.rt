@@ -1,11 +1,10 @@
 ghost use Rattle.std.specs.Prelude.{◌≡◌, ◌++◌, map, OnOk};
-ghost use Rattle.std.specs.List.{All};
 ghost use Rattle.std.specs.Option.{IfSome};
 ghost use Rattle.std.specs.Str.{IsUtf8};
 ghost use Rattle.serde_json.specs.Written.{comma_if, compact_text};
 ghost use Rattle.bsp_records.specs.Diagnostics.{diagnostic_data, publish_diagnostics_params_data};
 ghost use Rattle.bsp_records.specs.Printing.{origin_text};
-ghost use Rattle.bsp_records.specs.Shown.{publication, shown, HasPlainName};
+ghost use Rattle.bsp_records.specs.Shown.{publication, shown};
 ghost use Rattle.bsp_records.specs.Writing.{array_with};
 
 use crate::identifiers::{BuildTargetIdentifier, TextDocumentIdentifier};
@@ -28,7 +27,6 @@ pub fn print_publication(
     out: &mut Vec<u8>,
 ) -> Result<(), NoMemory>
     requires origin { IfSome origin.now IsUtf8 }
-    requires names { All HasPlainName list.now }
     ensures { OnOk result (out.new.items ≡ out.old.items ++ compact_text (publish_diagnostics_params_data
         (publication document.now target.now origin.now reset (map shown list.now)))) }
 {
@@ -66,7 +64,6 @@ fn print_origin(alloc: Global, origin: &Option<Text>, out: &mut Vec<u8>) -> Resu
 
 /// Prints the list of some diagnostics.
 fn print_list(alloc: Global, list: &[Diagnostic], out: &mut Vec<u8>) -> Result<(), NoMemory>
-    requires { All HasPlainName list.now }
     ensures { OnOk result (out.new.items
         ≡ out.old.items ++ compact_text (array_with (map diagnostic_data (map shown list.now)))) }
 {

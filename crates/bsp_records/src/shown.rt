@@ -1,9 +1,10 @@
-ghost use Rattle.std.specs.Prelude.{◌≡◌, ◌++◌, map, take, IfOk, IfSome};
-ghost use Rattle.std.specs.List.{All};
+ghost use Rattle.std.specs.Prelude.{◌≡◌, map, take, IfOk, IfSome};
+ghost use Rattle.std.specs.Char.{is_ascii};
+ghost use Rattle.std.specs.List.{All, take_while};
 ghost use Rattle.std.specs.Str.{IsAscii, IsUtf8};
 ghost use Rattle.bsp_records.specs.Diagnostics.{HasDiagnosticTexts};
 ghost use Rattle.bsp_records.specs.Short.{IsShortPosition, IsShortRecord};
-ghost use Rattle.bsp_records.specs.Shown.{shown, shown_message, severity_shown, HasPlainName};
+ghost use Rattle.bsp_records.specs.Shown.{shown, shown_message, name_shown, severity_shown};
 
 use crate::diagnostics::{DiagnosticRecord, DiagnosticSeverity};
 use crate::kinds::owned;
@@ -15,7 +16,6 @@ const NAME_SHOWN: usize = 64;
 
 /// The diagnostics as the protocol has them, in their order.
 pub fn show_all(alloc: Global, list: &[Diagnostic]) -> Result<Items<DiagnosticRecord>, NoMemory>
-    requires { All HasPlainName list.now }
     ensures shown { IfOk result (λ records. records ≡ map shown list.now) }
     ensures texts { IfOk result (All HasDiagnosticTexts) }
     ensures short { IfOk result (All IsShortRecord) }
@@ -27,10 +27,9 @@ pub fn show_all(alloc: Global, list: &[Diagnostic]) -> Result<Items<DiagnosticRe
     Ok(Items::from_vec(records))
 }
 
-/// A diagnostic as the protocol has it. Its message ends with the first 64 bytes of its name, where
-/// it has one.
+/// A diagnostic as the protocol has it. Its message ends with what is shown of its name, where it
+/// has one.
 pub fn show(alloc: Global, diagnostic: &Diagnostic) -> Result<DiagnosticRecord, NoMemory>
-    requires { HasPlainName diagnostic.now }
     ensures shown { IfOk result (λ made. made ≡ shown diagnostic.now) }
     ensures texts { IfOk result HasDiagnosticTexts }
     ensures short { IfOk result IsShortRecord }
@@ -66,28 +65,28 @@ fn shown_severity(severity: Severity) -> DiagnosticSeverity
 }
 
 fn message_of(alloc: Global, message: &str, name: &Option<Name>) -> Result<Text, NoMemory>
-    requires { IfSome name.now IsAscii }
     ensures shown { IfOk result (λ text. text ≡ shown_message message.now name.now) }
     ensures text { IfOk result IsUtf8 }
 {
-    match name {
-        Some(name) => named(alloc, message, name.as_slice()),
-        None => owned(alloc, message),
-    }
-}
-
-#[tactic(auto, using(crate::proofs::ShownLaws::named_text))]
-fn named(alloc: Global, message: &str, name: &[u8]) -> Result<Text, NoMemory>
-    requires { IsAscii name.now }
-    ensures shown { IfOk result (λ text. text ≡ message.now ++ take NAME_SHOWN name.now) }
-    ensures text { IfOk result IsUtf8 }
-{
     let mut bytes = Vec::from_slice(alloc, message.as_bytes())?;
-    bytes.extend_from_slice(front(name))?;
+    bytes.extend_from_slice(name_shown(name))?;
     Ok(Text::from_vec(bytes))
 }
 
-/// As much of a name as a message shows.
+/// As much of a name as a message shows: its first 64 bytes, as far as they are ASCII. Nothing is
+/// shown where there is no name.
+pub fn name_shown(name: &Option<Name>) -> &[u8]
+    ensures shown { result.now ≡ name_shown name.now }
+    // Names of the language are ASCII: of these the first 64 bytes are shown.
+    ensures plain { IfSome name.now (λ name. IsAscii name → result.now ≡ take 64 name) }
+{
+    match name {
+        Some(name) => ascii_front(front(name.as_slice())),
+        None => &[],
+    }
+}
+
+/// The first bytes of a name, no more than a message shows.
 fn front(name: &[u8]) -> &[u8]
     ensures { result.now ≡ take NAME_SHOWN name.now }
 {
@@ -96,4 +95,12 @@ fn front(name: &[u8]) -> &[u8]
     } else {
         name
     }
+}
+
+/// The bytes before the first that isn't ASCII.
+fn ascii_front(bytes: &[u8]) -> &[u8]
+    ensures { result.now ≡ take_while is_ascii bytes.now }
+{
+    let count = bytes.iter().take_while(|byte| byte.is_ascii()).count();
+    bytes.split_at(count).0
 }

@@ -1,7 +1,3 @@
-ghost use Rattle.std.specs.Prelude.{IfOk};
-ghost use Rattle.std.specs.List.{All};
-ghost use Rattle.bsp_records.specs.Shown.{HasPlainName};
-
 use bsp_address::Address;
 use bsp_records::{PublishDiagnosticsParams, read_publish_diagnostics_params};
 use ob_text::{Code, Diagnostic, NoMemory, Position, Range, Span, Text};
@@ -11,9 +7,7 @@ use std::sync::Arc;
 use std::test::Fail;
 use task_stream::{Piece, Shown, TableKey};
 
-fn bad_character(place: u32) -> Diagnostic
-    ensures { HasPlainName result }
-{
+fn bad_character(place: u32) -> Diagnostic {
     Diagnostic {
         span: Span {
             start: place,
@@ -34,9 +28,7 @@ fn bad_character(place: u32) -> Diagnostic
     }
 }
 
-fn many(alloc: Global, count: u32) -> Result<Vec<Diagnostic>, NoMemory>
-    ensures { IfOk result (λ list. All HasPlainName list.items) }
-{
+fn many(alloc: Global, count: u32) -> Result<Vec<Diagnostic>, NoMemory> {
     let mut list = Vec::new(alloc);
     for place in 0..count {
         list.push(bad_character(place))?;

@@ -1,5 +1,6 @@
 pub mod RoundTrip
-pub mod HandedLaws
 pub mod Publications
 pub mod DocumentLaws
+pub mod ModuleLaws
+pub mod ListLaws
 pub mod OutgoingLaws

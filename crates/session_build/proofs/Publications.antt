@@ -24,13 +24,12 @@ use Rattle.bsp_records.specs.Table.{Table, is_about, published}
 use Rattle.bsp_records.specs.declared.diagnostics.DiagnosticRecord.{DiagnosticRecord}
 use Rattle.bsp_records.specs.declared.publishing.PublishDiagnosticsParams.{PublishDiagnosticsParams}
 use Rattle.ob_text.specs.Code.{severity_of}
-use Rattle.ob_text.specs.declared.held.Held.{Held}
 use Rattle.ob_text.specs.declared.diagnostic.Diagnostic.{Diagnostic}
-use Rattle.oberon_check.specs.Diagnosed.{Diagnosed}
+use Rattle.build_rules.specs.Views.{HasList}
+use Rattle.build_rules.specs.World.{World}
 use Rattle.rpc_peer.specs.Said.{Said, notification, body_of}
-use Rattle.session_law.specs.Builds.{Finding, IsFound, Publishes, PublishesSome, Shows, handed_at, has_error, is_error_severity, none, one_more, publication_in, publication_said, published_if, shown_by, table_behind}
+use Rattle.session_law.specs.Builds.{Finding, IsFound, Publishes, PublishesSome, Shows, has_error, is_error_severity, none, one_more, publication_in, publication_said, published_if, shown_by, table_behind}
 use Rattle.session_law.specs.IsFramed.{IsFramed}
-use Rattle.ob_text.specs.Held.{Entries}
 use Rattle.session_law.specs.declared.BuildDocument.{BuildDocument}
 use Rattle.session_build.specs.Publishing.{IsNotice, IsPublished, IsPublishedOne, finding_of}
 use Rattle.session_build.proofs.RoundTrip.{publication_back}
@@ -98,11 +97,11 @@ fresh it findings finding is apart there =
     subst (λ (p : BuildDocument). IsApart it p) is own in
     true≢false (sym (at_itself it.key) ∙ same)
 
-pub none_published : (table : Table) (origin : Option (List ℕ)) (entries : Entries) → IsPublished table table [] origin entries [] false
-none_published table origin entries = record {
+pub none_published : (table : Table) (origin : Option (List ℕ)) (w : World) → IsPublished table table [] origin w [] false
+none_published table origin w = record {
   findings = [];
   of_documents = refl;
-  found = All-nil (IsFound entries);
+  found = All-nil (IsFound w);
   publishes = none;
   framed = All-nil IsFramed;
   notices = All-nil IsNotice;
@@ -111,16 +110,16 @@ none_published table origin entries = record {
   failed_is = refl;
 }
 
-pub one_published : (old mid new : Table) (documents : List BuildDocument) (it : BuildDocument) (origin : Option (List ℕ)) (entries : Entries) (held : Held) (before after : List Said) (failed one_failed : Bool)
-    → held ≡ handed_at entries it.path → All (IsApart it) documents
-    → IsPublished old mid documents origin entries before failed → IsPublishedOne mid new it origin held before after one_failed
-    → IsPublished old new (documents ++ it ∷ []) origin entries after (failed || one_failed)
-one_published old mid new documents it origin entries held before after failed one_failed is apart all one =
-    let finding : Finding = finding_of it one.list in
+pub one_published : (old mid new : Table) (documents : List BuildDocument) (it : BuildDocument) (origin : Option (List ℕ)) (w : World) (list : List Diagnostic) (before after : List Said) (failed one_failed : Bool)
+    → HasList w it.pair list → All (IsApart it) documents
+    → IsPublished old mid documents origin w before failed → IsPublishedOne mid new it origin list before after one_failed
+    → IsPublished old new (documents ++ it ∷ []) origin w after (failed || one_failed)
+one_published old mid new documents it origin w list before after failed one_failed has apart all one =
+    let finding : Finding = finding_of it list in
     record {
       findings = all.findings ++ finding ∷ [];
       of_documents = map-append (λ (f : Finding). f.document) all.findings (finding ∷ []) ∙ ap (λ (ps : List BuildDocument). ps ++ it ∷ []) all.of_documents;
-      found = All-push (IsFound entries) all.findings finding all.found (subst (λ (h : Held). Diagnosed h one.list) is one.found);
+      found = All-push (IsFound w) all.findings finding all.found has;
       publishes =
           subst (PublishesSome old origin (all.findings ++ finding ∷ [])) (sym one.messages)
           (one_more finding one.own all.publishes (fresh it all.findings finding refl (documents_all (IsApart it) all.findings documents all.of_documents apart)) (publishes_same mid (table_behind before old) origin finding one.own all.kept one.publishes));
@@ -177,19 +176,16 @@ notices_of : (ps : List PublishDiagnosticsParams) → All IsNotice (map publicat
 notices_of [] = All-nil IsNotice
 notices_of (p ∷ ps) = All-cons IsNotice (publication_said p) (map publication_said ps) refl (notices_of ps)
 
-pub one_shown : (old new : Table) (it : BuildDocument) (origin : Option (List ℕ)) (held : Held) (before after : List Said) (list : List Diagnostic) (ps : List PublishDiagnosticsParams) (failed : Bool)
-    → Diagnosed held list
+pub one_shown : (old new : Table) (it : BuildDocument) (origin : Option (List ℕ)) (list : List Diagnostic) (before after : List Said) (ps : List PublishDiagnosticsParams) (failed : Bool)
     → (old it.key.document it.key.target ≡ map shown list → ps ≡ [])
     → (old it.key.document it.key.target ≢ map shown list → ps ≡ pieces it.key origin (map shown list))
     → ((document target : List ℕ) → tables.table_with ps old document target ≡ (if is_at it.key document target then map shown list else old document target))
     → ((document target : List ℕ) → new document target ≡ (if is_at it.key document target then map shown list else old document target))
     → after ≡ before ++ map publication_said ps → All IsFramed (map publication_said ps)
-    → failed ≡ list_any (λ (d : Diagnostic). is_error_severity (severity_of d.code)) list → IsPublishedOne old new it origin held before after failed
-one_shown old new it origin held before after list ps failed found same other client table messages framed failed_is =
+    → failed ≡ list_any (λ (d : Diagnostic). is_error_severity (severity_of d.code)) list → IsPublishedOne old new it origin list before after failed
+one_shown old new it origin list before after ps failed same other client table messages framed failed_is =
     record {
-      list = list;
       own = map publication_said ps;
-      found = found;
       publishes = record {
         same = λ shows. ap (map publication_said) (same shows);
         other = λ differs. ap (map publication_said) (other differs);

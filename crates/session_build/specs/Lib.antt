@@ -1,4 +1,3 @@
 pub mod Outgoing
 pub mod Documents
 pub mod Publishing
-pub mod Handed

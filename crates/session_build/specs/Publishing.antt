@@ -3,12 +3,10 @@ use Rattle.std.specs.Prelude.{◌≡◌, ◌++◌, ℕ, List, map, Bool, true, f
 use Rattle.std.specs.List.{All, list_any}
 use Rattle.bsp_records.specs.Table.{Table}
 use Rattle.ob_text.specs.declared.diagnostic.Diagnostic.{Diagnostic}
-use Rattle.ob_text.specs.declared.held.Held.{Held}
-use Rattle.oberon_check.specs.Diagnosed.{Diagnosed}
+use Rattle.build_rules.specs.World.{World}
 use Rattle.rpc_peer.specs.Said.{Said}
 use Rattle.session_law.specs.Builds.{Finding, IsFound, Publishes, PublishesSome, Shows, has_error, is_publication, table_behind}
 use Rattle.session_law.specs.IsFramed.{IsFramed}
-use Rattle.ob_text.specs.Held.{Entries}
 use Rattle.session_law.specs.declared.BuildDocument.{BuildDocument}
 use Rattle.task_stream.specs.Showing.{is_at}
 
@@ -16,11 +14,11 @@ use Rattle.task_stream.specs.Showing.{is_at}
 abbrev pub IsNotice : Said → Type 0
 IsNotice m = is_publication m ≡ true
 
-pub record IsPublished (old new : Table) (documents : List BuildDocument) (origin : Option (List ℕ)) (entries : Entries) (messages : List Said) (failed : Bool) : Type 0 where
+pub record IsPublished (old new : Table) (documents : List BuildDocument) (origin : Option (List ℕ)) (w : World) (messages : List Said) (failed : Bool) : Type 0 where
   pub findings : List Finding
   -- each document with its diagnostics, in order
   pub of_documents : map (λ finding. finding.document) findings ≡ documents
-  pub found : All (IsFound entries) findings
+  pub found : All (IsFound w) findings
   pub publishes : PublishesSome old origin findings messages
   pub framed : All IsFramed messages
   pub notices : All IsNotice messages
@@ -32,11 +30,9 @@ pub record IsPublished (old new : Table) (documents : List BuildDocument) (origi
 abbrev pub finding_of : BuildDocument → List Diagnostic → Finding
 finding_of it list = record { document = it; list = list }
 
--- the same of one document, by what was handed out for it. Its messages go behind others.
-pub record IsPublishedOne (old new : Table) (it : BuildDocument) (origin : Option (List ℕ)) (held : Held) (before after : List Said) (failed : Bool) : Type 0 where
-  pub list : List Diagnostic
+-- the same of one document and its list. Its messages go behind others.
+pub record IsPublishedOne (old new : Table) (it : BuildDocument) (origin : Option (List ℕ)) (list : List Diagnostic) (before after : List Said) (failed : Bool) : Type 0 where
   pub own : List Said
-  pub found : Diagnosed held list
   pub publishes : Publishes old origin (finding_of it list) own
   pub messages : after ≡ before ++ own
   pub framed : All IsFramed own

@@ -1,13 +1,12 @@
-ghost use Rattle.std.specs.Prelude.{◌≡◌, ◌≢◌, ◌==◌, ◌<◌, ℕ, List, Option, length, map, nat_eq, not, Some, IfOk};
-ghost use Rattle.std.specs.List.{All, AllPairs, list_any, slice_get};
+ghost use Rattle.std.specs.Prelude.{◌≡◌, ◌≢◌, ◌<◌, ℕ, List, Option, length, map, not, IfOk};
+ghost use Rattle.std.specs.List.{All, AllPairs, list_any};
 ghost use Rattle.std.specs.Str.{bytes_eq};
-ghost use Rattle.indexmap.specs.IndexSet.{contains};
 ghost use Rattle.session_law.specs.Builds.{AreDocuments, build_document};
 ghost use Rattle.ob_text.specs.Once.{each_once, once_more};
 ghost use Rattle.session_build.specs.Documents.{build_of};
 ghost use Rattle.target_graph.specs.Workspace.{pairs_of};
-ghost use Rattle.target_graph.specs.declared.target.Pair.{Pair};
 
+use clean_build::set_of;
 use indexmap::IndexSet;
 use ob_text::{Items, NoMemory, Path};
 use session_law::BuildDocument;
@@ -39,18 +38,6 @@ pub fn documents_of(
     Ok(Items::from_vec(documents))
 }
 
-/// The numbers as a set.
-fn set_of(alloc: Global, numbers: &[u32]) -> Result<IndexSet<u32>, NoMemory>
-    ensures { IfOk result (λ set. (n : ℕ) → contains nat_eq set n
-        ≡ list_any (λ number. number == n) numbers.now) }
-{
-    let mut set = IndexSet::new(alloc);
-    for number in numbers {
-        set.insert(*number)?;
-    }
-    Ok(set)
-}
-
 /// A pair's document in its target.
 fn document_of_pair(
     alloc: Global,
@@ -58,17 +45,28 @@ fn document_of_pair(
     pair: u32,
 ) -> Result<BuildDocument, NoMemory>
     requires { pair < length (pairs_of workspace.now.targets) }
-    ensures { IfOk result (λ document. (at : Pair) → slice_get (pairs_of
-        workspace.now.targets) pair ≡ Some at → document ≡ build_document workspace.now at) }
+    ensures { IfOk result (λ document. document ≡ build_document workspace.now pair) }
 {
     let at = &workspace.pairs()[pair as usize];
     let path = at.path.copy(alloc)?;
     let document = workspace.document_of(pair)?;
     let target = workspace.target_id(at.target)?;
     Ok(BuildDocument {
+        pair,
         path,
         key: TableKey { document, target },
     })
+}
+
+/// The pairs of some documents, in order.
+pub(crate) fn modules_of(alloc: Global, documents: &[BuildDocument]) -> Result<Vec<u32>, NoMemory>
+    ensures { IfOk result (λ modules. modules.items ≡ map (λ document. document.pair) documents.now) }
+{
+    let mut modules = Vec::new(alloc);
+    for document in documents {
+        modules.push(document.pair)?;
+    }
+    Ok(modules)
 }
 
 /// The paths of some documents, each once, in the order in which they come first.

@@ -1,12 +1,11 @@
 //! A build: the documents that it is of, and what is published of their diagnostics.
 //!
-//! It stands on `target_graph` for the documents, on `oberon_check` for their diagnostics, on `task_stream` for what
+//! It stands on `target_graph` for the documents, on `clean_build` for their diagnostics, on `task_stream` for what
 //! a client shows, and on `session_law`, which says what a build publishes. It knows one build, and nothing of other
 //! requests. Begin with `publish_all` and `specs/Publishing.antt`; what is published waits as `Outgoing` (`outgoing.rt`).
 #![tactic(auto)]
 
 mod documents;
-mod handed;
 mod outgoing;
 mod publishing;
 

@@ -1,5 +1,7 @@
 -- What the core does in one step, in the words of the law.
 use Rattle.std.proofs.Common.{◌≡◌, ◌++◌, ℕ, ℤ, suc, List, [], ◌∷◌, map, Bool, true, false, Option, Some, None, Result, Ok, Err, OnOk, OnErr, is_err, IfSome, option_to_list, refl, ap, sym, ◌∙◌, subst}
+use Rattle.std.specs.List.{All}
+use Rattle.std.proofs.lemmas.Option.{same_Some}
 use Rattle.ob_text.specs.declared.held.Snapshot.{Snapshot}
 use Rattle.rpc_peer.specs.declared.message.Id.{Id}
 use Rattle.session_build.specs.declared.outgoing.Outgoing.{Outgoing}
@@ -8,7 +10,7 @@ use Rattle.rpc_peer.specs.Said.{Said, request, notification, result, failure, Is
 use Rattle.session_build.specs.Outgoing.{outgoing_said}
 use Rattle.session_law.specs.declared.InputEnd.TheVariants.{Border, Damaged, Failed}
 use Rattle.session_law.specs.declared.InputEnd.{InputEnd}
-use Rattle.session_law.specs.Builds.{AreDocuments, CleanBuild, build_answer, build_said, table_behind}
+use Rattle.session_law.specs.Builds.{AreDocuments, CleanBuild, IsFound, build_answer, build_said, table_behind, world_of}
 use Rattle.session_law.specs.AnswersAtOnce.{IsCaughtUp}
 use Rattle.session_law.specs.IsFramed.{IsFramed}
 use Rattle.session_law.specs.Lawful.{Lawful, EachAllowed}
@@ -247,7 +249,7 @@ module _ (old new : Core) (order : List Event) (quiet : old.out.items ≡ []) (a
     may_hand =
         record {
           each = (
-            record { paths = suits.paths; wanted = wanted_by (after order).requests (after order).force (asked_by old.workspace old.awaiting) suits.paths waiting suits.awaited; held = suits.held },
+            record { paths = suits.paths; wanted = wanted_by (after order).requests (after order).force (asked_by old.workspace old.awaiting) suits.paths waiting suits.awaited.wants; held = suits.held },
             keeps.lawful.each,
           );
         }
@@ -280,12 +282,17 @@ module _ (old new : Core) (order : List Event) (quiet : old.out.items ≡ []) (a
         (sym needless) given)
 
     -- a build is published and answered
-    built_on : (id : Id) (space : Space) (plan : Plan) (entries : Entries) → handed_of got ≡ Some entries → asked_by old.workspace old.awaiting ≡ owed id (building (build_in space plan))
+    built_on : (id : Id) (space : Space) (plan : Plan) (entries : Entries) → old.workspace ≡ Some space → handed_of got ≡ Some entries → asked_by old.workspace old.awaiting ≡ owed id (building (build_in space plan))
         → AreDocuments (build_in space plan) plan.documents → Builds old new id plan entries → Next (hand (handed_of got))
-    built_on id space plan entries is waits documents acts =
+    built_on id space plan entries in_force is waits documents acts =
         let p = acts.published in
         let build = build_in space plan in
-        let clean : CleanBuild build entries p.findings = record { documents = subst (AreDocuments build) (sym p.of_documents) documents; found = p.found } in
+        let same : acts.space ≡ space = same_Some acts.space space (sym acts.in_force ∙ in_force) in
+        let clean : CleanBuild build entries p.findings =
+        record {
+          documents = subst (AreDocuments build) (sym p.of_documents) documents;
+          found = subst (λ (s : Space). All (IsFound (world_of s entries)) p.findings) same p.found;
+        } in
         let owes = subst (λ h. Owes (base_of old) old.status (owed id (handed_over h (building build))) [] (hand (handed_of got) ∷ order)) is (owes_on id (building build) tt waits) in
         let kept : shows new.shown ≡ table_behind acts.messages (shows old.shown) = λ i document target. p.kept document target i in
         let answer_is : build_answer id build p.findings ≡ build_said id plan.origin acts.failed = ap (build_said id plan.origin) (sym p.failed_is) in
@@ -310,11 +317,11 @@ module _ (old new : Core) (order : List Event) (quiet : old.out.items ≡ []) (a
         let asked : asked_by old.workspace old.awaiting ≡ owed id (building (build_in space plan)) = ap (asked_by old.workspace) waits ∙ ap (λ f. asked_by f (Some (awaits.Building id plan))) in_force in
         let fits : PlanFits (Some space) (Some (awaits.Building id plan)) = subst (λ f. PlanFits f (Some (awaits.Building id plan))) in_force
         (subst (λ a. PlanFits old.workspace a) waits (keeps.knows alive).plan_is) in
-        built_on id space plan entries is asked fits acts
+        built_on id space plan entries in_force is asked fits acts
 
     pub acted_on_hand : (awaiting : Option Awaiting) → old.awaiting ≡ awaiting → ActsOnHand old new awaiting got → Next (hand (handed_of got))
     acted_on_hand None is acts =
-        let none : WantsOf None suits.paths = subst (λ a. WantsOf (asked_by old.workspace a) suits.paths) is suits.awaited in
+        let none : WantsOf None suits.paths = subst (λ a. WantsOf (asked_by old.workspace a) suits.paths) is suits.awaited.wants in
         absurd none
     acted_on_hand (Some (awaits.Opening id root)) is acts = answered_on id (asking root) tt (ap (asked_by old.workspace) is) acts
     acted_on_hand (Some (awaits.Building id plan)) is acts = builds_on id plan old.workspace (handed_of got) refl refl is acts

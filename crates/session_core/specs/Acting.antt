@@ -10,7 +10,7 @@ use Rattle.rpc_peer.specs.Said.{Said, request, notification, result, failure, Is
 use Rattle.rpc_peer.specs.Meaning.{parse_error}
 use Rattle.session_build.specs.Publishing.{IsPublished}
 use Rattle.session_build.specs.Outgoing.{outgoing_said}
-use Rattle.session_law.specs.Builds.{build_said}
+use Rattle.session_law.specs.Builds.{build_said, world_of}
 use Rattle.session_law.specs.IsFramed.{IsFramed}
 use Rattle.session_law.specs.Methods.{Verdict, asking, unreadable, verdict, due_in, is_named, null_message}
 use Rattle.ob_text.specs.Once.{each_once}
@@ -121,12 +121,14 @@ pub record AnswersAs (old new : Core) (id : Id) (v : Verdict) : Type 0 where
   pub short : IsSaid answer
   pub answers : Steps old new (answered (record (state_of old) { awaiting = None }) answer) (answer_to id answer ∷ [])
 
--- the core publishes what the build finds in what was handed out, and answers it
+-- the core publishes what the build finds in the workspace in force, by what was handed out, and answers it
 pub record Builds (old new : Core) (id : Id) (plan : Plan) (entries : Entries) : Type 0 where
+  pub space : Space
+  pub in_force : old.workspace ≡ Some space
   pub short : IfSome plan.origin (IsTextWithin origin_limit)
   pub messages : List Said
   pub failed : Bool
-  pub published : IsPublished (shows old.shown) (shows new.shown) plan.documents plan.origin entries messages failed
+  pub published : IsPublished (shows old.shown) (shows new.shown) plan.documents plan.origin (world_of space entries) messages failed
   pub steps : Steps old new (record (state_of old) { base = record (base_of old) { table = shows new.shown }; awaiting = None }) (messages ++ build_said id plan.origin failed ∷ [])
 
 -- the core acts on the answer of the tree, for the build that waits for it

@@ -85,9 +85,10 @@ IsQuiet core = core.out.items ≡ []
 abbrev pub IsFree : Core → Type 0
 IsFree core = core.awaiting ≡ None
 
--- the tree may be asked for these paths, for the request that waits
-abbrev pub Awaits : Core → List (List ℕ) → Type 0
-Awaits core paths = WantsOf (asked_by core.workspace core.awaiting) paths
+-- the tree may be asked for these paths, for the request that waits; a build has its documents
+pub record Awaits (core : Core) (paths : List (List ℕ)) : Type 0 where
+  pub wants : WantsOf (asked_by core.workspace core.awaiting) paths
+  pub planned : PlanFits core.workspace core.awaiting
 
 -- the tree needn't be asked
 abbrev pub NeedsNothing : Core → Type 0

@@ -53,7 +53,7 @@ impl Core {
     ghost use Rattle.session_core.specs.Acting.{Acts, ActsOnHand, Answers, AnswersUnread, Asks, Builds, BuildsOn, Ends, Plans, ServesAs, AnswersAs, Steps, exited_by};
     ghost use Rattle.session_core.specs.Judging.{HasQueuedTexts, queued_call};
     ghost use Rattle.session_core.specs.Reading.{AreReadable};
-    ghost use Rattle.session_core.specs.Standing.{StandsFor, Awaits, Suits, IsFree, NeedsNothing, NeedsWhatItAwaits, IsQuiet, IsAlive, status_of, left_to_write};
+    ghost use Rattle.session_core.specs.Standing.{StandsFor, AreIn, Awaits, PlanFits, Suits, IsFree, NeedsNothing, NeedsWhatItAwaits, IsQuiet, IsAlive, status_of, left_to_write};
     ghost use Rattle.session_core.specs.State.{handed_of, needed_paths, state_of};
     ghost use Rattle.session_law.specs.Requests.{handed_over};
     ghost use Rattle.serde_json.specs.View.{view};
@@ -302,6 +302,7 @@ impl Core {
 
     fn act_on_hand(&mut self, got: Option<Snapshot>) -> Result<(), NoMemory>
         requires quiet { IsQuiet self.old }
+        requires planned { PlanFits self.old.workspace self.old.awaiting }
         requires texts { AreReadable (handed_of got) }
         ensures ok { OnOk result (ActsOnHand self.old self.new self.old.awaiting got) }
         ensures found { OnOk result (IsAlive self.old) }
@@ -337,6 +338,7 @@ impl Core {
     fn build(&mut self, id: Id, planned: Planned, got: Option<Snapshot>) -> Result<(), NoMemory>
         requires quiet { IsQuiet self.old }
         requires free { IsFree self.old }
+        requires planned { AreIn self.old.workspace planned }
         requires texts { AreReadable (handed_of got) }
         ensures ok { OnOk result (BuildsOn self.old self.new id planned (handed_of got)) }
         ensures alive { self.new.dead ≡ self.old.dead }
@@ -366,6 +368,7 @@ impl Core {
     fn publish(&mut self, id: Id, planned: &Planned, snapshot: &Snapshot) -> Result<(), NoMemory>
         requires quiet { IsQuiet self.old }
         requires free { IsFree self.old }
+        requires planned { AreIn self.old.workspace planned.now }
         requires texts { AreReadable (Some snapshot.now.entries) }
         ensures ok { OnOk result (Builds self.old self.new id planned.now snapshot.now.entries) }
         ensures alive { self.new.dead ≡ self.old.dead }
@@ -373,9 +376,18 @@ impl Core {
         ensures status { self.new.status ≡ self.old.status }
         ensures err { OnErr result (self.new.out.items ≡ self.old.out.items) }
     {
+        let Some(workspace) = &self.workspace else {
+            unreachable!()
+        };
         let (documents, origin) = (planned.documents(), planned.origin());
-        let published = publish_all(self.alloc, &mut self.shown, documents, origin, snapshot)?;
-        let Published { messages, failed } = published;
+        let Published { messages, failed } = publish_all(
+            self.alloc,
+            workspace,
+            &mut self.shown,
+            documents,
+            origin,
+            snapshot,
+        )?;
         let mut messages = messages;
         let answer = compiled(self.alloc, id, origin, failed)?;
         messages.push_back(Outgoing::Message(answer))?;

@@ -1,15 +1,14 @@
 -- A build: the documents that it is of, what the clean build finds in them, and what is written of that.
-use Rattle.std.specs.Prelude.{◌≡◌, ◌==◌, ◌++◌, Contains, ℕ, List, [], ◌∷◌, map, filter, codes, Bool, true, false, Option, Some, None, unwrap_or, if◌then◌else◌}
-use Rattle.std.specs.List.{All, list_any, fold}
+use Rattle.std.specs.Prelude.{◌≡◌, ◌<◌, ◌++◌, Contains, ℕ, List, [], ◌∷◌, map, codes, Bool, true, false, Option, Some, None, if◌then◌else◌}
+use Rattle.std.specs.List.{All, AllPairs, list_any, fold, slice_get, slice_index_or}
 use Rattle.std.specs.Str.{bytes_eq}
 use Rattle.ob_text.specs.Code.{severity_of}
-use Rattle.ob_text.specs.Held.{Entries, held_at}
+use Rattle.ob_text.specs.Held.{Entries}
 use Rattle.ob_text.specs.declared.code.Severity.{Severity}
 use Rattle.ob_text.specs.declared.code.Severity.TheVariants.{Error, Warning}
 use Rattle.ob_text.specs.declared.diagnostic.Diagnostic.{Diagnostic}
-use Rattle.ob_text.specs.declared.held.Held.{Held}
-use Rattle.ob_text.specs.declared.held.Held.TheVariants.{Absent}
-use Rattle.oberon_check.specs.Diagnosed.{Diagnosed}
+use Rattle.build_rules.specs.World.{World}
+use Rattle.build_rules.specs.Views.{HasList}
 use Rattle.bsp_records.specs.Diagnostics.{publish_diagnostics_params_in, publish_diagnostics_params_data}
 use Rattle.bsp_records.specs.Results.{compile_result_data}
 use Rattle.bsp_records.specs.Shown.{shown}
@@ -21,8 +20,9 @@ use Rattle.bsp_records.specs.declared.results.StatusCode.TheVariants as statuses
 use Rattle.rpc_peer.specs.Said.{Said, request, notification, result, failure}
 use Rattle.rpc_peer.specs.declared.message.Id.{Id}
 use Rattle.target_graph.specs.Address.{document_address}
-use Rattle.target_graph.specs.Workspace.{Space, IsClosure, pairs_of, id_of}
+use Rattle.target_graph.specs.Workspace.{Space, IsClosure, pairs_of, path_at, id_of}
 use Rattle.target_graph.specs.declared.target.Pair.{Pair}
+use Rattle.target_graph.specs.declared.target.Target.{Target}
 use Rattle.task_stream.specs.Pieces.{pieces}
 use Rattle.session_law.specs.Methods.{Build, is_named}
 use Rattle.ob_text.specs.Once.{each_once}
@@ -30,22 +30,35 @@ use Rattle.session_law.specs.declared.BuildDocument.{BuildDocument}
 
 -- ---- the documents that a build is of
 
--- a document in a target
-abbrev pub build_document : Space → Pair → BuildDocument
-build_document space pair =
+-- the target of a pair
+abbrev pub target_at : List Target → ℕ → ℕ
+target_at targets q = slice_index_or (map (λ pair. pair.target) (pairs_of targets)) q 0
+
+-- the document of a pair, in its target
+abbrev pub build_document : Space → ℕ → BuildDocument
+build_document space q =
     record {
-      path = pair.path;
-      key = record { document = document_address space.root pair.path; target = id_of space pair.target };
+      pair = q;
+      path = path_at space.targets q;
+      key = record { document = document_address space.root (path_at space.targets q); target = id_of space (target_at space.targets q) };
     }
 
-abbrev pub is_among : List ℕ → Pair → Bool
-is_among targets pair = list_any (λ target. target == pair.target) targets
+-- the pair is one of these targets
+pub record IsPairOf (targets : List Target) (closure : List ℕ) (q : ℕ) : Type 0 where
+  pub pair : Pair
+  pub there : slice_get (pairs_of targets) q ≡ Some pair
+  pub among : Contains closure pair.target
 
--- The documents of the targets asked for and of all that they depend on, in the order of the workspace file.
+-- The documents of the targets asked for and of all that they depend on: those of all their pairs, in the order of the
+-- workspace file.
 pub record AreDocuments (build : Build) (documents : List BuildDocument) : Type 0 where
   pub closure : List ℕ
   pub closed : IsClosure build.space.targets build.asked closure
-  pub are : documents ≡ map (build_document build.space) (filter (is_among closure) (pairs_of build.space.targets))
+  pub pairs : List ℕ
+  pub ordered : AllPairs ◌<◌ pairs
+  pub each : All (IsPairOf build.space.targets closure) pairs
+  pub whole : (q : ℕ) → IsPairOf build.space.targets closure q → Contains pairs q
+  pub are : documents ≡ map (build_document build.space) pairs
 
 -- the paths that a build wants, each once
 pub record WantsPaths (build : Build) (paths : List (List ℕ)) : Type 0 where
@@ -55,23 +68,23 @@ pub record WantsPaths (build : Build) (paths : List (List ℕ)) : Type 0 where
 
 -- ---- what the clean build finds in what was handed out
 
--- what was handed out for a path
-abbrev pub handed_at : Entries → List ℕ → Held
-handed_at entries path = unwrap_or (held_at entries path) Absent
+-- the workspace of a build, and what was handed out of it
+abbrev pub world_of : Space → Entries → World
+world_of space entries = record { targets = space.targets; entries = entries }
 
 -- a document with its diagnostics
 pub record Finding : Type 0 where
   pub document : BuildDocument
   pub list : List Diagnostic
 
--- these are the diagnostics of the document by what was handed out
-abbrev pub IsFound : Entries → Finding → Type 0
-IsFound entries finding = Diagnosed (handed_at entries finding.document.path) finding.list
+-- These are the diagnostics of the document in its target, by what was handed out for it and for all that it imports.
+abbrev pub IsFound : World → Finding → Type 0
+IsFound w finding = HasList w finding.document.pair finding.list
 
 -- each document of the build with its diagnostics, in order
 pub record CleanBuild (build : Build) (entries : Entries) (findings : List Finding) : Type 0 where
   pub documents : AreDocuments build (map (λ finding. finding.document) findings)
-  pub found : All (IsFound entries) findings
+  pub found : All (IsFound (world_of build.space entries)) findings
 
 abbrev pub is_error_severity : Severity → Bool
 is_error_severity Error = true

@@ -7,7 +7,8 @@ use Rattle.rpc_peer.specs.OpenIds.{same_id}
 use Rattle.rpc_peer.specs.Said.{Said, request, notification, result, failure}
 use Rattle.serde_json.specs.Data.{Data}
 use Rattle.target_graph.specs.Workspace.{Space}
-use Rattle.session_law.specs.Builds.{WantsPaths, handed_at}
+use Rattle.build_rules.specs.World.{handed_at}
+use Rattle.session_law.specs.Builds.{WantsPaths}
 use Rattle.session_law.specs.Methods.{Build, Verdict, asking, opening, queued, building, built, answering, closing, refusal, verdict, due_in, unreadable, workspace_path, is_named}
 use Rattle.ob_text.specs.Held.{Entries}
 

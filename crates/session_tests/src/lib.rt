@@ -5,10 +5,16 @@
 #![tactic(auto)]
 
 #[cfg(test)]
+mod builds;
+#[cfg(test)]
 mod compiles;
+#[cfg(test)]
+mod diagnostics;
 #[cfg(test)]
 mod questions;
 #[cfg(test)]
 mod rows;
 #[cfg(test)]
 mod runs;
+#[cfg(test)]
+mod steps;

@@ -93,7 +93,7 @@ pub fn framed(alloc: Global, bodies: &[&[u8]]) -> Result<Vec<u8>, Fail> {
     Ok(bytes)
 }
 
-fn add_frame(alloc: Global, body: &[u8], bytes: &mut Vec<u8>) -> Result<(), Fail> {
+pub fn add_frame(alloc: Global, body: &[u8], bytes: &mut Vec<u8>) -> Result<(), Fail> {
     let head = format!(in alloc; "Content-Length: {}\r\n\r\n", body.len())?;
     bytes.extend_from_slice(head.as_bytes())?;
     bytes.extend_from_slice(body)?;

@@ -1,5 +1,5 @@
 -- Diagnostics that are shown alike.
-use Rattle.std.proofs.Common.{◌≡◌, ◌++◌, ◌∙◌, ℕ, List, [], ◌∷◌, Bool, true, false, Option, Some, None, refl, sym, ap, append-nil}
+use Rattle.std.proofs.Common.{◌≡◌, ◌++◌, ◌∙◌, ℕ, List, [], ◌∷◌, Bool, true, false, Some, refl, sym, ap}
 use Rattle.std.specs.Prelude.{◌&&◌, ◌↔◌, IsTrue, codes, if◌then◌else◌}
 use Rattle.std.specs.Str.{bytes_eq}
 use Rattle.std.proofs.lemmas.List.{append_cancel_left}
@@ -7,9 +7,8 @@ use Rattle.ob_text.specs.Code.{name_of, message_of}
 use Rattle.ob_text.specs.declared.code.Code.{Code}
 use Rattle.ob_text.specs.declared.code.Code.TheVariants.{DocumentAbsent, DocumentTooLarge, DocumentNotText, BadCharacter, OpenComment, OpenString, BadNumber, NumberTooLarge, BadToken, ModuleName, EndName, NoModule, ImportBroken, ImportCyclic, UnusedImport, NameTwice, NoName, NotType, NotConstant, ConstantRange, TypeTooLarge, InterfaceTooLarge, BadBase, BadResult, BadReturn, BadSelector, NotVariable, ReadOnly, BadOperand, NotAssignable, NotBoolean, NotInteger, BadCall, ArgumentCount, BadArgument, BadCase, LabelTwice, BadControl}
 use Rattle.ob_text.specs.declared.diagnostic.Diagnostic.{Diagnostic}
-use Rattle.bsp_records.specs.Shown.{shown, shown_message}
+use Rattle.bsp_records.specs.Shown.{name_shown, shown}
 use Rattle.bsp_records.specs.declared.diagnostics.DiagnosticRecord.{DiagnosticRecord}
-use Rattle.task_stream.specs.Same.{name_shown}
 
 -- ---- codes have different names
 
@@ -77,11 +76,6 @@ names_apart a b same = sym (named_back a) ∙ (ap (first_of named) same ∙ name
 
 -- ---- what decides whether they are shown alike
 
--- a message is its code's text, and then what is shown of the name
-message_is : (text : List ℕ) (name : Option (List ℕ)) → shown_message text name ≡ text ++ name_shown name
-message_is text None = sym (append-nil text)
-message_is text (Some name) = refl
-
 parts_same : (x y : DiagnosticRecord) → x.range ≡ y.range → x.severity ≡ y.severity → x.code ≡ y.code → x.source ≡ y.source → x.message ≡ y.message → x ≡ y
 parts_same x y range severity code source message = rw (range, severity, code, source, message) refl
 
@@ -92,8 +86,7 @@ some_same a b same = cc
 pub alike : (x y : Diagnostic) → x.range ≡ y.range → x.code ≡ y.code → name_shown x.name ≡ name_shown y.name → shown x ≡ shown y
 alike x y range code name =
     parts_same (shown x) (shown y) range (ap (λ c. (shown (record x { code = c })).severity) code) (ap (λ (c : Code). Some (name_of c)) code) refl
-    (message_is (message_of x.code) x.name
-    ∙ (ap (λ (c : Code). message_of c ++ name_shown x.name) code ∙ (ap (λ n. message_of y.code ++ n) name ∙ sym (message_is (message_of y.code) y.name))))
+    (ap (λ (c : Code). message_of c ++ name_shown x.name) code ∙ ap (λ n. message_of y.code ++ n) name)
 
 -- and the other way round
 pub same_code : (x y : Diagnostic) → shown x ≡ shown y → x.code ≡ y.code
@@ -103,9 +96,7 @@ pub same_name : (x y : Diagnostic) → shown x ≡ shown y → name_shown x.name
 same_name x y same =
     let code = same_code x y same in
     append_cancel_left (message_of x.code) (name_shown x.name) (name_shown y.name)
-    (sym (message_is (message_of x.code) x.name)
-    ∙ (ap (λ (r : DiagnosticRecord). r.message) same
-    ∙ (message_is (message_of y.code) y.name ∙ ap (λ (c : Code). message_of c ++ name_shown y.name) (sym code))))
+    (ap (λ (r : DiagnosticRecord). r.message) same ∙ ap (λ (c : Code). message_of c ++ name_shown y.name) (sym code))
 
 pub decides_shown : (a b c : Bool) (x y : Diagnostic) → IsTrue a ↔ (x.range ≡ y.range) → IsTrue b ↔ (x.code ≡ y.code) → IsTrue c ↔ (name_shown x.name ≡ name_shown y.name)
     → IsTrue ((a && b) && c) ↔ (shown x ≡ shown y)

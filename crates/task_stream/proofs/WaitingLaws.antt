@@ -1,12 +1,10 @@
 -- What a publication that waits is written as.
-use Rattle.std.proofs.Common.{◌≡◌, ◌∙◌, ℕ, List, length, map, take, drop, min, Option, sym, ap, subst}
+use Rattle.std.proofs.Common.{◌≡◌, ◌∙◌, ℕ, List, length, map, take, drop, min, Option, sym, ap}
 use Rattle.std.specs.Prelude.{◌==◌}
-use Rattle.std.specs.List.{All}
 use Rattle.std.proofs.lemmas.List.{take_min, take-map, drop-map}
-use Rattle.std.proofs.lemmas.List.Elements.{All-take, All-drop}
 use Rattle.ob_text.specs.declared.diagnostic.Diagnostic.{Diagnostic}
 use Rattle.bsp_records.specs.Short.{diagnostics_limit}
-use Rattle.bsp_records.specs.Shown.{publication, shown, HasPlainName}
+use Rattle.bsp_records.specs.Shown.{publication, shown}
 use Rattle.bsp_records.specs.declared.publishing.PublishDiagnosticsParams.{PublishDiagnosticsParams}
 use Rattle.task_stream.specs.Waiting.{piece_of}
 use Rattle.task_stream.specs.declared.piece.Piece.TheInside.{Inside}
@@ -16,10 +14,6 @@ pub part_of : {A : Type 0} (list slice rest front : List A) (first n : ℕ) → 
     → front ≡ take diagnostics_limit (drop first list)
 part_of list slice rest front first n whole back least is =
     is ∙ (ap (λ k. take k rest) least ∙ (take_min diagnostics_limit rest ∙ ap (take diagnostics_limit) (back ∙ ap (drop first) whole)))
-
-pub part_plain : (list part : List Diagnostic) (first : ℕ) → part ≡ take diagnostics_limit (drop first list) → All HasPlainName list → All HasPlainName part
-part_plain list part first is all =
-    subst (All HasPlainName) (sym is) (All-take HasPlainName diagnostics_limit (drop first list) (All-drop HasPlainName first list all))
 
 part_shown : (list : List Diagnostic) (first : ℕ) → map shown (take diagnostics_limit (drop first list)) ≡ take diagnostics_limit (drop first (map shown list))
 part_shown list first = sym (take-map shown diagnostics_limit (drop first list)) ∙ ap (take diagnostics_limit) (sym (drop-map shown first list))

@@ -1,4 +1,3 @@
 pub mod Pieces
-pub mod Same
 pub mod Showing
 pub mod Waiting

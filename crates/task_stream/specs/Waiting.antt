@@ -1,11 +1,10 @@
 -- A publication that waits to be written.
 use Rattle.std.specs.Prelude.{◌==◌, ◌≤◌, List, length, map, take, drop}
-use Rattle.std.specs.List.{All}
 use Rattle.std.specs.Option.{IfSome}
 use Rattle.std.specs.Str.{IsUtf8}
 use Rattle.ob_text.specs.declared.diagnostic.Diagnostic.{Diagnostic}
 use Rattle.bsp_records.specs.Short.{diagnostics_limit, IsShortPosition}
-use Rattle.bsp_records.specs.Shown.{shown, HasPlainName}
+use Rattle.bsp_records.specs.Shown.{shown}
 use Rattle.bsp_records.specs.declared.diagnostics.DiagnosticRecord.{DiagnosticRecord}
 use Rattle.bsp_records.specs.declared.publishing.PublishDiagnosticsParams.{PublishDiagnosticsParams}
 use Rattle.task_stream.specs.Pieces.{piece}
@@ -20,10 +19,9 @@ IsShortDiagnostic d = IsShortPosition d.range.start × IsShortPosition d.range.e
 abbrev pub records_of : Whole → List DiagnosticRecord
 records_of whole = map shown whole.list.value
 
--- its origin is UTF-8, and its names are ASCII
-pub record IsSoundWhole (whole : Whole) : Type 0 where
-  pub origin : IfSome whole.origin.value IsUtf8
-  pub names : All HasPlainName whole.list.value
+-- its origin is UTF-8
+abbrev pub IsSoundWhole : Whole → Type 0
+IsSoundWhole whole = IfSome whole.origin.value IsUtf8
 
 -- what a piece is written as
 abbrev pub piece_of : Inside → PublishDiagnosticsParams

@@ -1,11 +1,8 @@
 ghost use Rattle.std.specs.Prelude.{◌≡◌, ◌↔◌, ◌&&◌, map, IsTrue};
-ghost use Rattle.bsp_records.specs.Shown.{shown};
-ghost use Rattle.task_stream.specs.Same.{name_shown};
+ghost use Rattle.bsp_records.specs.Shown.{name_shown, shown};
 
+use bsp_records::name_shown;
 use ob_text::{Code, Diagnostic, Name, Range};
-
-/// The most bytes of a name that a message shows.
-const NAME_SHOWN: usize = 64;
 
 /// Whether two lists are shown alike.
 pub fn same_shown(a: &[Diagnostic], b: &[Diagnostic]) -> bool
@@ -60,18 +57,5 @@ fn same_code(a: Code, b: Code) -> bool
 fn same_name(a: &Option<Name>, b: &Option<Name>) -> bool
     ensures { IsTrue result ↔ (name_shown a.now ≡ name_shown b.now) }
 {
-    front(a) == front(b)
-}
-
-/// As much of a name as a message shows, nothing where there is none.
-fn front(name: &Option<Name>) -> &[u8]
-    ensures { result.now ≡ name_shown name.now }
-{
-    match name {
-        Some(name) => {
-            let name = name.as_slice();
-            name.split_at(NAME_SHOWN.min(name.len())).0
-        }
-        None => &[],
-    }
+    name_shown(a) == name_shown(b)
 }

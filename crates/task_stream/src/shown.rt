@@ -5,7 +5,7 @@ ghost use Rattle.ob_text.specs.Ascii.{IsWithin};
 ghost use Rattle.bsp_records.specs.Limits.{origin_limit};
 ghost use Rattle.bsp_address.specs.Address.{IsAddress};
 ghost use Rattle.bsp_records.specs.Short.{IsShortPosition, IsShortPublication};
-ghost use Rattle.bsp_records.specs.Shown.{shown, HasPlainName};
+ghost use Rattle.bsp_records.specs.Shown.{shown};
 ghost use Rattle.task_stream.specs.Pieces.{pieces, IsPiece};
 ghost use Rattle.task_stream.specs.Showing.{shows, MakeShow, ShowsNow};
 ghost use Rattle.task_stream.specs.Waiting.{IsShortDiagnostic, IsSoundWhole, records_of};
@@ -69,7 +69,6 @@ impl Shown {
         list: Vec<Diagnostic>,
     ) -> Result<Vec<Piece>, NoMemory>
         requires origin { IfSome origin.now.value IsUtf8 }
-        requires names { All HasPlainName list.items }
         ensures same { IfOk result (λ ps. shows self.old key.now.document key.now.target
             ≡ map shown list.items → ps.items ≡ []) }
         ensures other { IfOk result (λ ps. shows self.old key.now.document key.now.target
@@ -140,7 +139,6 @@ fn pieces_of(
     list: &Arc<Items<Diagnostic>>,
 ) -> Result<Vec<Piece>, NoMemory>
     requires origin { IfSome origin.now.value IsUtf8 }
-    requires names { All HasPlainName list.now.value }
     ensures { IfOk result (λ ps. ps.items
         ≡ pieces key.now origin.now.value (map shown list.now.value)) }
 {

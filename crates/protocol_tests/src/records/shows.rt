@@ -1,6 +1,3 @@
-ghost use Rattle.std.specs.Prelude.{◌≡◌, IfOk};
-ghost use Rattle.std.specs.Str.{IsAscii};
-
 use super::{is_printed, one, owned, parsed};
 use bsp_records::{
     BuildTargetIdentifier, PublishDiagnosticsParams, TextDocumentIdentifier,
@@ -14,9 +11,7 @@ const PUBLISHED: &str =
     "{\"buildTarget\":{\"uri\":\"file:///w/?id=app\"},\"diagnostics\":[{\"code\":\"badToken\",\"message\":\"unexpected symbol\",\"range\":{\"end\":{\"character\":19,\"line\":0},\"start\":{\"character\":18,\"line\":0}},\"severity\":1,\"source\":\"oberon\"}],\"reset\":true,\"textDocument\":{\"uri\":\"file:///w/A.Mod\"}}";
 
 /// A diagnostic of the characters 18 to 19 of line 0.
-fn diagnostic(code: Code, name: Option<Name>) -> Diagnostic
-    ensures { result.name ≡ name }
-{
+fn diagnostic(code: Code, name: Option<Name>) -> Diagnostic {
     let start = Position {
         line: 0,
         character: 18,
@@ -82,15 +77,16 @@ fn writes_what_it_read(rt: HostRuntime) -> Result<(), Fail> {
     Ok(())
 }
 
-fn plain_name(alloc: Global, count: usize) -> Result<Name, Fail>
-    ensures { IfOk result IsAscii }
-{
-    Ok(Name::from_vec(vec![in alloc; b'a'; count]?))
+/// A name of so many letters, and what stands behind them.
+fn name(alloc: Global, count: usize, behind: &str) -> Result<Name, Fail> {
+    let mut bytes = vec![in alloc; b'a'; count]?;
+    bytes.extend_from_slice(behind.as_bytes())?;
+    Ok(Name::from_vec(bytes))
 }
 
-/// The length of the message of a name that has so many bytes.
-fn message_length(alloc: Global, count: usize) -> Result<usize, Fail> {
-    let name = plain_name(alloc, count)?;
+/// The length of the message of such a name.
+fn message_length(alloc: Global, count: usize, behind: &str) -> Result<usize, Fail> {
+    let name = name(alloc, count, behind)?;
     let list = one(alloc, diagnostic(Code::NoName, Some(name)))?;
     let mut length = 0;
     for record in show_all(alloc, list.as_slice())?.as_slice() {
@@ -103,7 +99,16 @@ fn message_length(alloc: Global, count: usize) -> Result<usize, Fail> {
 fn cuts_names(rt: HostRuntime) -> Result<(), Fail> {
     let alloc = rt.alloc();
     for (count, want) in [(0, 14), (63, 77), (64, 78), (65, 78)] {
-        assert_eq!(rt; message_length(alloc, count)?, want);
+        assert_eq!(rt; message_length(alloc, count, "")?, want);
+    }
+    Ok(())
+}
+
+#[test]
+fn cuts_names_that_are_not_ascii(rt: HostRuntime) -> Result<(), Fail> {
+    let alloc = rt.alloc();
+    for (count, behind, want) in [(0, "ä", 14), (3, "äb", 17), (63, "ä", 77), (64, "ä", 78)] {
+        assert_eq!(rt; message_length(alloc, count, behind)?, want);
     }
     Ok(())
 }

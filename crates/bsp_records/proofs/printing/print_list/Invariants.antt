@@ -1,9 +1,8 @@
 use Rattle.std.proofs.Common.{◌≡◌, ◌++◌, length, map}
-use Rattle.std.specs.List.{All}
 use Rattle.serde_json.specs.View.{items_of}
 use Rattle.serde_json.specs.Written.{compact_text, items_text}
 use Rattle.bsp_records.specs.Diagnostics.{diagnostic_data}
-use Rattle.bsp_records.specs.Shown.{shown, HasPlainName}
+use Rattle.bsp_records.specs.Shown.{shown}
 use Rattle.bsp_records.specs.Writing.{array_with}
 use Rattle.bsp_records.proofs.printing.print_list.Given as goal
 
@@ -12,8 +11,5 @@ decreases-diagnostics l = length l.rest
 
 abbrev pub invariant-diagnostics : goal.invariant-diagnostics
 invariant-diagnostics l =
-    record {
-      names : All HasPlainName l.rest;
-      goes_on : l.out.items ++ items_text l.later (items_of (map diagnostic_data (map shown l.rest)))
-          ≡ l.fn.out.items ++ compact_text (array_with (map diagnostic_data (map shown l.fn.list)));
-    }
+    l.out.items ++ items_text l.later (items_of (map diagnostic_data (map shown l.rest)))
+    ≡ l.fn.out.items ++ compact_text (array_with (map diagnostic_data (map shown l.fn.list)))

@@ -5,7 +5,6 @@ use Rattle.ob_text.specs.Code.{severity_of}
 use Rattle.ob_text.specs.declared.diagnostic.Diagnostic.{Diagnostic}
 use Rattle.session_build.specs.Outgoing.{outgoing_said}
 use Rattle.session_law.specs.Builds.{is_error_severity}
-use Rattle.session_build.specs.Handed.{held_or_absent}
 use Rattle.session_build.proofs.Publications.{all_framed, one_shown, origin_within}
 use Rattle.task_stream.specs.Showing.{shows}
 use Rattle.session_build.proofs.publishing.publish_one.Goals as goal
@@ -13,12 +12,12 @@ use Rattle.session_build.proofs.publishing.publish_one.Goals as goal
 pub returns : goal.returns
 returns c =
     let it = c.args.document.now in
-    let list : List Diagnostic = c.in_ok-list.list.items in
+    let list : List Diagnostic = c.args.list.items in
     let origin = c.args.origin.now.value in
     let pieces : List PublishDiagnosticsParams = c.in_ok-pieces.pieces.items in
-    one_shown (shows c.args.shown.now) (shows c.publish.new.self) it origin (held_or_absent c.args.held) (map outgoing_said c.args.messages.now.items) (map outgoing_said c.say_all.new.messages.items)
-    list pieces c.has_error-failed.result c.in_ok-list.ensures.found
+    one_shown (shows c.args.shown.now) (shows c.publish.new.self) it origin list (map outgoing_said c.args.messages.now.items) (map outgoing_said c.say_all.new.messages.items)
+    pieces c.has_error-failed.result
     c.in_ok-pieces.ensures.same c.in_ok-pieces.ensures.other (c.in_ok-pieces.ensures.client (shows c.args.shown.now) refl) c.in_ok-pieces.ensures.table
     c.in_ok-say_all.ensures
-    (all_framed pieces (c.in_ok-pieces.ensures.short (origin_within origin 1024 c.requires.origin)))
+    (all_framed pieces (c.in_ok-pieces.ensures.short (origin_within origin 1024 c.requires)))
     (c.has_error-failed.ensures ∙ ap (λ (ds : List Diagnostic). list_any (λ (d : Diagnostic). is_error_severity (severity_of d.code)) ds) c.as_slice.ensures.value)

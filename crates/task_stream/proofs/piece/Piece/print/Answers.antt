@@ -6,14 +6,8 @@ use Rattle.bsp_records.specs.Diagnostics.{publish_diagnostics_params_data}
 use Rattle.bsp_records.specs.Short.{diagnostics_limit}
 use Rattle.bsp_records.specs.declared.publishing.PublishDiagnosticsParams.{PublishDiagnosticsParams}
 use Rattle.task_stream.specs.declared.piece.Whole.{Whole}
-use Rattle.task_stream.proofs.WaitingLaws.{part_plain, printed_as}
+use Rattle.task_stream.proofs.WaitingLaws.{printed_as}
 use Rattle.task_stream.proofs.piece.Piece.print.Goals as goal
-
-pub print_publication-requires-clause-names : goal.print_publication-requires-clause-names
-print_publication-requires-clause-names c =
-    let p = c.self.inside in
-    let list : c.deref.result.now ≡ p.whole.value.list.value = c.deref.ensures ∙ ap (λ (w : Whole). w.list.value) c.deref-whole.ensures in
-    part_plain p.whole.value.list.value c.part-list.result.now p.first (c.part-list.ensures ∙ ap (λ (l : List Diagnostic). take diagnostics_limit (drop p.first l)) list) c.self.invariant.sound.names
 
 pub returns : goal.returns
 returns c =

@@ -1,0 +1,2 @@
+pub mod OneImports
+pub mod Ways

@@ -1,0 +1,132 @@
+-- A build as it begins, and as the check of a module is kept.
+use Rattle.std.proofs.Common.{◌≡◌, ◌≢◌, ◌<◌, ◌+◌, ◌++◌, ◌∷◌, ◌⊎◌, inl, inr, ℕ, List, [], Bool, true, false, length, get_or, map, refl, sym, ap, subst, ◌∙◌, arith}
+use Rattle.std.specs.Prelude.{Contains, ◌==◌, Some, None, Vec, IsTrue, ◌↔◌, if◌then◌else◌}
+use Rattle.std.specs.List.{IsDistinct, slice_set}
+use Rattle.std.specs.declared.alloc.Global.{Global}
+use Rattle.std.proofs.lemmas.Bool.{cases_eq, false≢true}
+use Rattle.std.proofs.lemmas.List.{get_or_append_left, get_or_default, get_or-set_other, get_or-set_same, length-map, length-set, map-append, map-set}
+use Rattle.std.proofs.Math.Seq.{get_or-append_seam}
+use Rattle.std.proofs.lemmas.List.Elements.{Contains-get_or}
+use Rattle.std.proofs.lemmas.Option.{slice_get_within}
+use Rattle.build_plan.specs.Places.{Places, IsReady, fresh, with_finished, with_given}
+use Rattle.build_plan.specs.Rows.{AreWithin, OnCycle, row_at}
+use Rattle.ob_text.specs.declared.diagnostic.Diagnostic.{Diagnostic}
+use Rattle.oberon_types.specs.declared.entity.View.{View}
+use Rattle.oberon_types.specs.Entities.{ViewTree, cyclic_view, missing_view}
+use Rattle.oberon_types.specs.Memory.{plain_view}
+use Rattle.build_rules.specs.Views.{HasList, HasView}
+use Rattle.build_rules.specs.World.{World, IsCyclic}
+use Rattle.target_graph.specs.Workspace.{pairs_of}
+use Rattle.clean_build.proofs.BuildLaws.{one_on}
+use Rattle.clean_build.proofs.ImportLaws.{cyclic_rows}
+use Rattle.clean_build.specs.Build.{IsListOf, IsSoFar, Slots}
+use Rattle.clean_build.specs.Known.{view_at}
+use Rattle.clean_build.specs.Rows.{AreRows}
+
+-- ---- as it begins
+
+nothing : {X : Type 0} (x : X) → Contains [] x → ⊥
+nothing x c = let h = c.1 in omega (arith, h)
+
+none_twice : IsDistinct ◌==◌ []
+unfolding IsDistinct
+none_twice = tt
+
+pub rows_within : (w : World) (rows : List (List ℕ)) → AreRows w rows → AreWithin rows
+rows_within w rows are i d h k e below =
+    let row : List ℕ = get_or rows i d in
+    let listed : Contains (row_at rows i) (get_or row k e) =
+    subst (λ (r : List ℕ). Contains r (get_or row k e)) (get_or_default rows i d [] h) (Contains-get_or row k e below) in
+    let import = (are.each i (get_or row k e)).0 listed in
+    let sees = import.means.visible.sees in
+    let within = slice_get_within (pairs_of w.targets) (get_or row k e) sees.pair sees.there in
+    omega (arith, within, are.size)
+
+module _ (w : World) (modules : List ℕ) (rows : List (List ℕ)) (are : AreRows w rows) (kept : List View) (slots : Slots) where
+  pub begun : length kept ≡ length (pairs_of w.targets) → length slots ≡ length (pairs_of w.targets) → ((p : ℕ) → OnCycle rows p → view_at kept p ≡ cyclic_view) → IsSoFar w modules (fresh rows) kept slots
+  begun views_size slots_size cyclic = record {
+    rows = are;
+    within = rows_within w rows are;
+    kept_all = views_size;
+    sized = slots_size;
+    distinct = none_twice;
+    below = λ p c. absurd (nothing p c);
+    finished = λ p c. absurd (nothing p c);
+    only = λ p c. absurd (nothing p c);
+    seen = λ p among settled. seen_at p settled;
+    listed = λ p among c. absurd (nothing p c);
+  }
+    where
+      seen_at : (p : ℕ) → Contains [] p ⊎ OnCycle rows p → HasView w p (view_at kept p)
+      seen_at p (inl c) = absurd (nothing p c)
+      seen_at p (inr on) = subst (HasView w p) (sym (cyclic p on)) (HasView.cyclic ((cyclic_rows w rows are p).0 on))
+
+-- ---- as a check is kept
+
+-- the views, where that of a module on a cycle stays
+abbrev pub later_views : Bool → List View → ℕ → View → List View
+later_views cyclic kept m view = if cyclic then kept else slice_set kept m view
+
+views_length : (cyclic : Bool) (kept : List View) (m : ℕ) (view : View) → length (later_views cyclic kept m view) ≡ length kept
+views_length true kept m view = refl
+views_length false kept m view = length-set kept m view
+
+views_other : (cyclic : Bool) (kept : List View) (m : ℕ) (view : View) (p : ℕ) → p ≢ m → view_at (later_views cyclic kept m view) p ≡ view_at kept p
+views_other true kept m view p other = refl
+views_other false kept m view p other = ap (λ (vs : List ViewTree). get_or vs p missing_view) (map-set plain_view kept m view) ∙ get_or-set_other (map plain_view kept) m p (plain_view view) missing_view other
+
+views_here : (kept : List View) (m : ℕ) (view : View) → m < length kept → view_at (slice_set kept m view) m ≡ plain_view view
+views_here kept m view h =
+    let size = length-map kept plain_view in
+    ap (λ (vs : List ViewTree). get_or vs m missing_view) (map-set plain_view kept m view) ∙ get_or-set_same (map plain_view kept) m (plain_view view) missing_view (omega (arith, h, size))
+
+module _ (w : World) (modules : List ℕ) (pl : Places) (m : ℕ) (kept : List View) (slots : Slots) (far : IsSoFar w modules pl kept slots) (ready : IsReady pl m) where
+  -- a module that isn't of the build is passed over
+  pub passed_on : ¬ (Contains modules m) → IsSoFar w modules (with_finished (with_given pl m) m) kept slots
+  passed_on none = one_on w modules pl m kept kept slots slots far ready refl refl (λ p other. refl) (λ p other. refl) (λ among. absurd (none among))
+
+  module _ (cyclic : Bool) (on : IsTrue cyclic ↔ OnCycle pl.rows m) (view : View) (list : Vec Diagnostic Global) (listed : HasList w m list.items) (shown : ¬ (IsCyclic w m) → HasView w m (plain_view view)) where
+    view_here : (b : Bool) → cyclic ≡ b → Contains modules m → HasView w m (view_at (later_views b kept m view) m)
+    view_here true is among = far.seen m among (inr (on.0 is))
+    view_here false is among =
+        let h = ready.within in
+        let r = far.rows.size in
+        let k = far.kept_all in
+        subst (HasView w m) (sym (views_here kept m view (omega (arith, h, r, k)))) (shown (λ cycle. false≢true (sym is ∙ on.1 ((cyclic_rows w pl.rows far.rows m).1 cycle))))
+
+    pub kept_on : IsSoFar w modules (with_finished (with_given pl m) m) (later_views cyclic kept m view) (slice_set slots m (Some list))
+    kept_on =
+        let h = ready.within in
+        let r = far.rows.size in
+        let s = far.sized in
+        let within : m < length slots = omega (arith, h, r, s) in
+        one_on w modules pl m kept (later_views cyclic kept m view) slots (slice_set slots m (Some list)) far ready
+        (views_length cyclic kept m view) (length-set slots m (Some list))
+        (views_other cyclic kept m view) (λ p other. get_or-set_other slots m p (Some list) None other)
+        (λ among. (view_here cyclic refl among, subst (IsListOf w m) (sym (get_or-set_same slots m (Some list) None within)) listed))
+
+-- ---- the first views
+
+module _ (rows : List (List ℕ)) (views : List View) (view : View) (n : ℕ) (size : length views ≡ n) where
+  pub views_more : ((p : ℕ) → p < n → OnCycle rows p → view_at views p ≡ cyclic_view) → (OnCycle rows n → plain_view view ≡ cyclic_view)
+      → (p : ℕ) → p < n + 1 → OnCycle rows p → view_at (views ++ view ∷ []) p ≡ cyclic_view
+  views_more others this p h on = by (cases_eq p n)
+    where
+      all : List ViewTree
+      all = map plain_view views
+
+      sized : length all ≡ length views
+      sized = length-map views plain_view
+
+      added : (q : ℕ) → view_at (views ++ view ∷ []) q ≡ get_or (all ++ plain_view view ∷ []) q missing_view
+      added q = ap (λ (vs : List ViewTree). get_or vs q missing_view) (map-append plain_view views (view ∷ []))
+
+      by : (p ≡ n) ⊎ (p ≡ n → ⊥) → view_at (views ++ view ∷ []) p ≡ cyclic_view
+      by (inl e) =
+          added p
+          ∙ ap (λ k. get_or (all ++ plain_view view ∷ []) k missing_view) (e ∙ sym size ∙ sym sized)
+          ∙ get_or-append_seam all (plain_view view) [] missing_view
+          ∙ this (subst (OnCycle rows) e on)
+      by (inr other) =
+          let below : p < n = omega (arith, h, other) in
+          added p ∙ get_or_append_left all (plain_view view ∷ []) missing_view p (omega (arith, below, size, sized)) ∙ others p below on

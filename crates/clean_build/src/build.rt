@@ -1,0 +1,155 @@
+ghost use Rattle.std.specs.Prelude.{◌≡◌, ◌==◌, ◌<◌, ◌^◌, ℕ, Some, if◌then◌else◌, length, nat_eq, IfOk, Contains};
+ghost use Rattle.std.specs.List.{All, list_any, slice_set};
+ghost use Rattle.indexmap.specs.IndexSet.{contains};
+ghost use Rattle.build_plan.specs.Lists.{lists};
+ghost use Rattle.build_plan.specs.Rows.{OnCycle};
+ghost use Rattle.ob_text.specs.Held.{IsReadable};
+ghost use Rattle.oberon_types.specs.Entities.{cyclic_view};
+ghost use Rattle.build_rules.specs.Views.{AreLists};
+ghost use Rattle.clean_build.specs.Build.{AreModules, HasListAt};
+ghost use Rattle.clean_build.specs.Known.{view_at};
+ghost use Rattle.clean_build.specs.Sources.{AreSources, world};
+
+use crate::documents::Documents;
+use crate::output::out_view;
+use crate::sources::Sources;
+use build_plan::Plan;
+use indexmap::IndexSet;
+use ob_text::{Diagnostic, Held, NoMemory, Snapshot};
+use oberon_module::Checked;
+use oberon_types::View;
+use std::alloc::Global;
+use target_graph::Workspace;
+
+/// The lists of the clean build for some modules, which are indices of pairs, in the order in which they are given. Each
+/// document is read once, and each module checked once, behind those that it imports.
+pub fn clean_build(
+    alloc: Global,
+    workspace: &Workspace,
+    modules: &[u32],
+    snapshot: &Snapshot,
+) -> Result<Vec<Vec<Diagnostic>>, NoMemory>
+    requires modules { AreModules workspace.now.targets modules.now }
+    requires texts { All (λ entry. IsReadable entry.1) snapshot.now.entries }
+    ensures { IfOk result (λ found. AreLists (record { targets = workspace.now.targets; entries = snapshot.now.entries }) modules.now (lists found)) }
+{
+    let absent = Held::Absent;
+    let sources = Sources {
+        workspace,
+        documents: Documents::read(alloc, snapshot.entries.as_slice(), &absent)?,
+        out: out_view(alloc)?,
+    };
+    in_order(alloc, &sources, modules)
+}
+
+/// Checks these modules, each behind those that it imports, and gives their lists by their indices.
+fn check_all(
+    alloc: Global,
+    sources: &Sources,
+    modules: &[u32],
+) -> Result<Vec<Option<Vec<Diagnostic>>>, NoMemory>
+    requires sources { AreSources sources.now }
+    requires modules { AreModules sources.now.workspace.now.targets modules.now }
+    ensures { IfOk result (λ lists. (p : ℕ) → Contains modules.now p → HasListAt (world sources.now) lists.items p) }
+{
+    let wanted = set_of(alloc, modules)?;
+    let count = sources.workspace.pairs().len();
+    let mut plan = Plan::new(alloc, sources.rows(alloc)?)?;
+    let mut views = first_views(alloc, &plan, count)?;
+    let mut lists = no_lists(alloc, count)?;
+    'modules: while let Some(module) = plan.ready() {
+        if wanted.contains(&module) {
+            let checked = sources.check(alloc, module, views.as_slice())?;
+            keep(
+                checked,
+                module,
+                plan.on_cycle(module),
+                &mut views,
+                &mut lists,
+            );
+        }
+        plan.finish(module);
+    }
+    Ok(lists)
+}
+
+/// Keeps what the check of a module found. The view of a module on a cycle stays as it is.
+fn keep(
+    checked: Checked,
+    index: u32,
+    cyclic: bool,
+    views: &mut Vec<View>,
+    slots: &mut Vec<Option<Vec<Diagnostic>>>,
+)
+    requires viewed { index < length views.old.items }
+    requires listed { index < length slots.old.items }
+    ensures views { views.new.items ≡ (if cyclic then views.old.items else slice_set views.old.items index checked.view) }
+    ensures slots { slots.new.items ≡ slice_set slots.old.items index (Some checked.list) }
+{
+    let Checked { list, view, .. } = checked;
+    slots[index as usize] = Some(list);
+    if !cyclic {
+        views[index as usize] = view;
+    }
+}
+
+/// The views of modules before any is checked: that of a module on a cycle is known.
+fn first_views(alloc: Global, plan: &Plan, count: usize) -> Result<Vec<View>, NoMemory>
+    requires rows { count ≡ length plan.now.rows }
+    requires few { count < 2 ^ 32 }
+    ensures count { IfOk result (λ views. length views.items ≡ count) }
+    ensures cyclic { IfOk result (λ views. (p : ℕ) → OnCycle plan.now.rows p → view_at views.items p ≡ cyclic_view) }
+{
+    let mut views = Vec::new(alloc);
+    for index in 0..count {
+        views.push(if plan.on_cycle(index as u32) {
+            View::Cyclic
+        } else {
+            View::Missing
+        })?;
+    }
+    Ok(views)
+}
+
+fn no_lists(alloc: Global, count: usize) -> Result<Vec<Option<Vec<Diagnostic>>>, NoMemory>
+    ensures { IfOk result (λ lists. length lists.items ≡ count) }
+{
+    let mut lists = Vec::new(alloc);
+    for _ in 0..count {
+        lists.push(None)?;
+    }
+    Ok(lists)
+}
+
+/// The lists of these modules, in the order of the modules.
+fn in_order(
+    alloc: Global,
+    sources: &Sources,
+    modules: &[u32],
+) -> Result<Vec<Vec<Diagnostic>>, NoMemory>
+    requires sources { AreSources sources.now }
+    requires modules { AreModules sources.now.workspace.now.targets modules.now }
+    ensures { IfOk result (λ found. AreLists (world sources.now) modules.now (lists found)) }
+{
+    let mut slots = check_all(alloc, sources, modules)?;
+    let mut found = Vec::new(alloc);
+    for module in modules {
+        match slots[*module as usize].take() {
+            Some(list) => found.push(list)?,
+            None => unreachable!(),
+        }
+    }
+    Ok(found)
+}
+
+/// The numbers as a set.
+pub fn set_of(alloc: Global, numbers: &[u32]) -> Result<IndexSet<u32>, NoMemory>
+    ensures { IfOk result (λ set. (n : ℕ) → contains nat_eq set n
+        ≡ list_any (λ number. number == n) numbers.now) }
+{
+    let mut set = IndexSet::new(alloc);
+    for number in numbers {
+        set.insert(*number)?;
+    }
+    Ok(set)
+}

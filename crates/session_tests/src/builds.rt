@@ -1,0 +1,286 @@
+use crate::steps::{APP, Case, OF_APP, expect_case};
+use std::test::Fail;
+
+const LIBRARY: (&[u8], &[u8]) = (
+    b"oberon-build.json",
+    b"{\"version\":1,\"targets\":[{\"name\":\"lib\",\"kind\":\"library\",\"modules\":[\"A.Mod\",\"B.Mod\",\"C.Mod\"]}]}",
+);
+
+const APP_ON_LIB: (&[u8], &[u8]) = (
+    b"oberon-build.json",
+    b"{\"version\":1,\"targets\":[{\"name\":\"lib\",\"kind\":\"library\",\"modules\":[\"B.Mod\"]},{\"name\":\"app\",\"kind\":\"application\",\"modules\":[\"A.Mod\"],\"dependencies\":[\"lib\"],\"main\":\"A\"}]}",
+);
+
+const APART: (&[u8], &[u8]) = (
+    b"oberon-build.json",
+    b"{\"version\":1,\"targets\":[{\"name\":\"one\",\"kind\":\"library\",\"modules\":[\"one/A.Mod\",\"one/B.Mod\"]},{\"name\":\"two\",\"kind\":\"library\",\"modules\":[\"two/A.Mod\",\"two/B.Mod\"]}]}",
+);
+
+const SHARED: (&[u8], &[u8]) = (
+    b"oberon-build.json",
+    b"{\"version\":1,\"targets\":[{\"name\":\"one\",\"kind\":\"library\",\"modules\":[\"A.Mod\"]},{\"name\":\"two\",\"kind\":\"library\",\"modules\":[\"A.Mod\"]}]}",
+);
+
+const A_ON_B: (&[u8], &[u8]) = (b"A.Mod", b"MODULE A; IMPORT B; END A.");
+
+const A_OF_B: (&[u8], &[u8]) = (b"A.Mod", b"MODULE A; IMPORT B; CONST e* = B.c; END A.");
+
+const OF_LIB: &str = "{\"uri\":\"file:///w/?id=lib\"}";
+
+const OF_BOTH: &str = "{\"uri\":\"file:///w/?id=one\"},{\"uri\":\"file:///w/?id=two\"}";
+
+const CYCLES: [Case<'static>; 3] = [
+    // Two modules import each other, and a third one of them: no order of these can be checked.
+    (
+        &[
+            LIBRARY,
+            A_ON_B,
+            (b"B.Mod", b"MODULE B; IMPORT A; END B."),
+            (b"C.Mod", b"MODULE C; IMPORT A; END C."),
+        ],
+        &[],
+        &[(
+            OF_LIB,
+            &[
+                (
+                    "lib",
+                    "A.Mod",
+                    &["0:17-0:18 1 importCyclic import cycle: B"],
+                ),
+                (
+                    "lib",
+                    "B.Mod",
+                    &["0:17-0:18 1 importCyclic import cycle: A"],
+                ),
+                (
+                    "lib",
+                    "C.Mod",
+                    &["0:17-0:18 1 importCyclic import cycle: A"],
+                ),
+            ],
+            2,
+        )],
+    ),
+    // A module imports itself.
+    (
+        &[APP, (b"A.Mod", b"MODULE A; IMPORT A; END A.")],
+        &[],
+        &[(
+            OF_APP,
+            &[(
+                "app",
+                "A.Mod",
+                &["0:17-0:18 1 importCyclic import cycle: A"],
+            )],
+            2,
+        )],
+    ),
+    // A cycle is broken, and what stands on it is judged again.
+    (
+        &[
+            LIBRARY,
+            A_ON_B,
+            (b"B.Mod", b"MODULE B; IMPORT A; END B."),
+            (b"C.Mod", b"MODULE C; END C."),
+        ],
+        &[(3, b"B.Mod", b"MODULE B; END B.")],
+        &[
+            (
+                OF_LIB,
+                &[
+                    (
+                        "lib",
+                        "A.Mod",
+                        &["0:17-0:18 1 importCyclic import cycle: B"],
+                    ),
+                    (
+                        "lib",
+                        "B.Mod",
+                        &["0:17-0:18 1 importCyclic import cycle: A"],
+                    ),
+                ],
+                2,
+            ),
+            (
+                OF_LIB,
+                &[
+                    (
+                        "lib",
+                        "A.Mod",
+                        &["0:17-0:18 2 unusedImport unused import: B"],
+                    ),
+                    ("lib", "B.Mod", &[]),
+                ],
+                1,
+            ),
+        ],
+    ),
+];
+
+const IMPORTS: [Case<'static>; 6] = [
+    // An import is broken.
+    (
+        &[
+            APP_ON_LIB,
+            A_ON_B,
+            (b"B.Mod", b"MODULE B; VAR x: T; END B."),
+        ],
+        &[],
+        &[(
+            OF_APP,
+            &[
+                ("lib", "B.Mod", &["0:17-0:18 1 noName unknown name: T"]),
+                (
+                    "app",
+                    "A.Mod",
+                    &["0:17-0:18 1 importBroken imported module has errors: B"],
+                ),
+            ],
+            2,
+        )],
+    ),
+    // No target that the module's own sees has the module.
+    (
+        &[APP, A_ON_B, (b"B.Mod", b"MODULE B; END B.")],
+        &[],
+        &[(
+            OF_APP,
+            &[("app", "A.Mod", &["0:17-0:18 1 noModule no such module: B"])],
+            2,
+        )],
+    ),
+    // A warning alone fails no build.
+    (
+        &[APP_ON_LIB, A_ON_B, (b"B.Mod", b"MODULE B; END B.")],
+        &[],
+        &[(
+            OF_APP,
+            &[(
+                "app",
+                "A.Mod",
+                &["0:17-0:18 2 unusedImport unused import: B"],
+            )],
+            1,
+        )],
+    ),
+    // An error in a target that is depended on fails the build, though nothing asked for imports it.
+    (
+        &[
+            APP_ON_LIB,
+            (b"A.Mod", b"MODULE A; END A."),
+            (b"B.Mod", b"MODULE B; VAR x: T; END B."),
+        ],
+        &[],
+        &[(
+            OF_APP,
+            &[("lib", "B.Mod", &["0:17-0:18 1 noName unknown name: T"])],
+            2,
+        )],
+    ),
+    // The module Out is there without a document.
+    (
+        &[
+            APP,
+            (
+                b"A.Mod",
+                b"MODULE A; IMPORT Out; BEGIN Out.Int(1, 2); Out.Ln END A.",
+            ),
+        ],
+        &[],
+        &[(OF_APP, &[], 1)],
+    ),
+    // A module whose text stays is judged again where what it imports shows something else.
+    (
+        &[
+            APP_ON_LIB,
+            A_OF_B,
+            (b"B.Mod", b"MODULE B; CONST c* = 1; END B."),
+        ],
+        &[
+            (3, b"B.Mod", b"MODULE B; CONST d* = 1; END B."),
+            (4, b"B.Mod", b"MODULE B; CONST c* = 2; END B."),
+        ],
+        &[
+            (OF_APP, &[], 1),
+            (
+                OF_APP,
+                &[("app", "A.Mod", &["0:33-0:34 1 noName unknown name: c"])],
+                2,
+            ),
+            (OF_APP, &[("app", "A.Mod", &[])], 1),
+        ],
+    ),
+];
+
+const TARGETS: [Case<'static>; 3] = [
+    // Each target sees the module of its own.
+    (
+        &[
+            APART,
+            (b"one/A.Mod", b"MODULE A; IMPORT B; CONST e* = B.c; END A."),
+            (b"one/B.Mod", b"MODULE B; CONST c* = 1; END B."),
+            (b"two/A.Mod", b"MODULE A; IMPORT B; CONST e* = B.c; END A."),
+            (b"two/B.Mod", b"MODULE B; CONST d* = 1; END B."),
+        ],
+        &[],
+        &[(
+            OF_BOTH,
+            &[("two", "two/A.Mod", &["0:33-0:34 1 noName unknown name: c"])],
+            2,
+        )],
+    ),
+    // A document is shown in each target that lists it.
+    (
+        &[SHARED, (b"A.Mod", b"MODULE A; VAR x: T; END A.")],
+        &[],
+        &[(
+            OF_BOTH,
+            &[
+                ("one", "A.Mod", &["0:17-0:18 1 noName unknown name: T"]),
+                ("two", "A.Mod", &["0:17-0:18 1 noName unknown name: T"]),
+            ],
+            2,
+        )],
+    ),
+    // The names behind MODULE and END are that of the file.
+    (
+        &[APP, (b"A.Mod", b"MODULE B; END C.")],
+        &[],
+        &[(
+            OF_APP,
+            &[(
+                "app",
+                "A.Mod",
+                &[
+                    "0:7-0:8 1 moduleName module name differs from the file",
+                    "0:14-0:15 1 endName name after END differs",
+                ],
+            )],
+            2,
+        )],
+    ),
+];
+
+#[test]
+fn shows_cycles(rt: HostRuntime) -> Result<(), Fail> {
+    for case in &CYCLES {
+        expect_case(&rt, case)?;
+    }
+    Ok(())
+}
+
+#[test]
+fn shows_what_imports_are(rt: HostRuntime) -> Result<(), Fail> {
+    for case in &IMPORTS {
+        expect_case(&rt, case)?;
+    }
+    Ok(())
+}
+
+#[test]
+fn tells_targets_apart(rt: HostRuntime) -> Result<(), Fail> {
+    for case in &TARGETS {
+        expect_case(&rt, case)?;
+    }
+    Ok(())
+}
