@@ -1,9 +1,12 @@
-"""Builds a scratch program over some of this repository's crates, for what the program itself offers no way to measure."""
+"""Builds a scratch program over some of this repository's crates, for what the program itself offers no way to measure;
+and reads the other scripts of this folder, which have no ending, as modules."""
 import os
 import pathlib
 import shutil
 import subprocess
 import sys
+from importlib.machinery import SourceFileLoader
+from importlib.util import module_from_spec, spec_from_loader
 
 ROOT = pathlib.Path(__file__).resolve().parent.parent
 
@@ -55,3 +58,11 @@ def built(folder, name, text, libraries):
     if not program.exists():
         sys.exit(done.stdout + done.stderr)
     return str(program)
+
+
+def loaded(name):
+    """A script of this folder as a module."""
+    loader = SourceFileLoader(name, str(ROOT / "bench" / name))
+    module = module_from_spec(spec_from_loader(name, loader))
+    loader.exec_module(module)
+    return module

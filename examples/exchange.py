@@ -1,7 +1,7 @@
 """Talks to a build server as an editor does, and prints the exchange for a person to read. The workspace is
-a copy of FOLDER, in which a module is broken and mended.
+a copy of examples/workspace, in which modules are broken and mended.
 
-usage: exchange.py [--messages] PROGRAM FOLDER
+usage: exchange.py [--messages] PROGRAM
 
 Each message is a line, and each diagnostic stands below the message that publishes it, as compilers show it. With
 --messages each message is shown whole, as JSON.
@@ -15,6 +15,15 @@ import sys
 import tempfile
 import unicodedata
 import urllib.parse
+
+WORKSPACE = pathlib.Path(__file__).resolve().parent / "workspace"
+
+# How modules are broken: the module, what is told of it, and what stands in it in whose place. Each is mended before
+# the next one is broken.
+FAULTS = (
+    ("shapes/Canvas.Mod", "Canvas.Mod assigns a number to a CHAR", "dots[y, x] := Blank", "dots[y, x] := 32"),
+    ("shapes/Shapes.Mod", "Shapes.Mod calls the radius of a circle its size", "radius", "size"),
+)
 
 SEVERITIES = {1: "error", 2: "warning", 3: "note", 4: "hint"}
 STATUSES = {1: "ok", 2: "error", 3: "cancelled"}
@@ -86,16 +95,17 @@ def shown(diagnostic, path, text):
 # ---- the exchange
 
 
-def short_of(value):
-    """What an answer tells, in few words."""
+def short_of(value, root):
+    """What an answer tells, in few words. Documents are told by their paths."""
     if "code" in value:
         return f"{value['code']} {value['message']}"
     if "statusCode" in value:
         return STATUSES[value["statusCode"]]
     if "items" in value:
-        return ", ".join(source["uri"] for item in value["items"] for source in item["sources"])
+        documents = [source["uri"] for item in value["items"] for source in item["sources"]]
+        return ", ".join(document.removeprefix(root) for document in documents)
     if "targets" in value:
-        return ", ".join(target["id"]["uri"] for target in value["targets"])
+        return ", ".join(target["displayName"] for target in value["targets"])
     return " ".join(str(value[name]) for name in ("displayName", "version") if name in value)
 
 
@@ -143,7 +153,7 @@ class Client:
         if value is None:
             short = "null"
         else:
-            short = "" if self.is_whole else short_of(value)
+            short = "" if self.is_whole else short_of(value, self.folder.as_uri() + "/")
         self.show("server", f"{kind} of request {self.last_id}" + (f": {short}" if short else ""), value)
 
     def lines_of(self, message):
@@ -172,35 +182,35 @@ def compile_all(client, note):
     client.request("buildTarget/compile", {"targets": client.targets})
 
 
-def without_a_semicolon(text):
-    """The module with the first semicolon behind its BEGIN left out."""
-    place = text.index(";", text.index("BEGIN"))
-    return text[:place] + text[place + 1 :]
+def show_fault(client, path, note, right, wrong):
+    """Shows what it does to the workspace that a module has something wrong, and that it is mended."""
+    module = client.folder / path
+    text = module.read_text()
+    if right not in text:
+        sys.exit(f"{path} has no {right}")
+    module.write_text(text.replace(right, wrong))
+    compile_all(client, f"{note}:")
+    module.write_text(text)
+    compile_all(client, f"{module.name} is mended:")
 
 
-def show_session(client, folder):
-    root = folder.as_uri()
-    workspace = json.loads((folder / "oberon-build.json").read_text())
-    module = folder / workspace["targets"][0]["modules"][0]
+def show_session(client):
     client.request(
         "build/initialize",
         {
             "displayName": "demo",
             "version": "1",
             "bspVersion": "2.2.0",
-            "rootUri": root,
+            "rootUri": client.folder.as_uri(),
             "capabilities": {"languageIds": ["oberon"]},
         },
     )
     told = client.request("workspace/buildTargets")
     client.targets = [target["id"] for target in told["result"]["targets"]]
     client.request("buildTarget/sources", {"targets": client.targets})
-    text = module.read_text()
-    compile_all(client, f"{module.name} as it is:")
-    module.write_text(without_a_semicolon(text))
-    compile_all(client, f"{module.name} without one of its semicolons:")
-    module.write_text(text)
-    compile_all(client, f"{module.name} mended:")
+    compile_all(client, "the workspace as it is:")
+    for fault in FAULTS:
+        show_fault(client, *fault)
     client.request("build/shutdown")
     client.notify("build/exit")
 
@@ -210,14 +220,13 @@ def main():
     is_whole = words[:1] == ["--messages"]
     if is_whole:
         words = words[1:]
-    if len(words) != 2:
+    if len(words) != 1:
         sys.exit(__doc__)
-    program, original = words
     with tempfile.TemporaryDirectory() as place:
         folder = pathlib.Path(place).resolve() / "workspace"
-        shutil.copytree(original, folder)
-        client = Client(program, folder, is_whole)
-        show_session(client, folder)
+        shutil.copytree(WORKSPACE, folder)
+        client = Client(words[0], folder, is_whole)
+        show_session(client)
         status = client.status()
     print(f"The server ended with status {status}.")
     sys.exit(status)

@@ -1,0 +1,107 @@
+"""A session with the built program over a folder, for what is measured from outside."""
+import json
+import os
+import pathlib
+import subprocess
+import sys
+
+ROOT = pathlib.Path(__file__).resolve().parent.parent
+PROGRAM = str(ROOT / "bin" / "oberon-bsp")
+PLACE = "file:///w"
+INITIALIZE = {
+    "displayName": "bench",
+    "version": "1",
+    "bspVersion": "2.2.0",
+    "rootUri": PLACE,
+    "capabilities": {"languageIds": ["oberon"]},
+}
+
+
+def need_program():
+    """Ends with a word to the person where the program isn't built."""
+    if not os.access(PROGRAM, os.X_OK):
+        sys.exit("there is no bin/oberon-bsp yet (./build makes it)")
+
+
+def target(name):
+    """The id of a target, as requests have it."""
+    return {"uri": f"{PLACE}/?id={name}"}
+
+
+def frame(message):
+    body = json.dumps({"jsonrpc": "2.0", **message}).encode()
+    return b"Content-Length: %d\r\n\r\n" % len(body) + body
+
+
+def read_frame(stream):
+    """The content of the next frame, and how many bytes the frame has."""
+    length, size = None, 0
+    while (line := stream.readline()) not in (b"\r\n", b""):
+        size += len(line)
+        name, value = line.split(b":", 1)
+        if name.lower() == b"content-length":
+            length = int(value)
+    if length is None:
+        sys.exit("the server ended without an answer")
+    return json.loads(stream.read(length)), size + 2 + length
+
+
+class Session:
+    """A session over a folder, which counts what is written and published."""
+
+    def __init__(self, folder):
+        self.server = subprocess.Popen(
+            [PROGRAM, "serve", str(folder)], stdin=subprocess.PIPE, stdout=subprocess.PIPE
+        )
+        self.last_id = 0
+        self.written = 0
+        self.published = 0
+        # The first diagnostic that is published, with its document.
+        self.first = None
+
+    def send(self, message):
+        self.server.stdin.write(frame(message))
+        self.server.stdin.flush()
+
+    def notify(self, method):
+        self.send({"method": method})
+
+    def ask(self, method, params):
+        """The result of a request."""
+        self.last_id += 1
+        self.send({"id": self.last_id, "method": method, "params": params})
+        while True:
+            message, size = read_frame(self.server.stdout)
+            self.written += size
+            if message.get("id") == self.last_id:
+                if "error" in message:
+                    sys.exit(f"{method} is refused: {message['error']['message']}")
+                return message["result"]
+            self.keep(message)
+
+    def keep(self, message):
+        """Counts what a notification publishes."""
+        if message["method"] != "build/publishDiagnostics":
+            return
+        params = message["params"]
+        self.published += len(params["diagnostics"])
+        if self.first is None and params["diagnostics"]:
+            self.first = params["textDocument"]["uri"], params["diagnostics"][0]
+
+    def open(self):
+        self.ask("build/initialize", INITIALIZE)
+        self.notify("build/initialized")
+
+    def memory(self):
+        """The most resident memory until now, in bytes."""
+        for line in pathlib.Path(f"/proc/{self.server.pid}/status").read_text().splitlines():
+            if line.startswith("VmHWM:"):
+                return int(line.split()[1]) * 1024
+        sys.exit("the system doesn't tell VmHWM")
+
+    def leave(self):
+        self.ask("build/shutdown", None)
+        self.notify("build/exit")
+        self.server.stdin.close()
+        if self.server.wait() != 0:
+            sys.exit(f"the server ended with status {self.server.returncode}")
