@@ -9,8 +9,6 @@ mod builds;
 #[cfg(test)]
 mod compiles;
 #[cfg(test)]
-mod diagnostics;
-#[cfg(test)]
 mod questions;
 #[cfg(test)]
 mod rows;
