@@ -9,6 +9,8 @@ mod builds;
 #[cfg(test)]
 mod compiles;
 #[cfg(test)]
+mod diagnostics;
+#[cfg(test)]
 mod questions;
 #[cfg(test)]
 mod rows;
