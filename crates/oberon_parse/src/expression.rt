@@ -11,7 +11,7 @@ ghost use Rattle.oberon_parse.specs.Tests.{is_symbol, next_is};
 ghost use Rattle.oberon_parse.specs.Machine.{term_parts, simple_parts, expr_parts, exprs_parts, element_parts};
 ghost use Rattle.oberon_parse.specs.Reading.{ReadsParts, ReadsSome, StopsAt};
 
-use crate::join::{closed, keeping};
+use crate::join::{closed, fitting, keeping};
 use crate::read::{add_operator, constant, ident, mul_operator, need_ident, relator, sign, symbol};
 use crate::stop::Stop;
 use ob_text::Span;
@@ -95,7 +95,7 @@ fn addends(alloc: Global, given: &[Token], levels: usize) -> Result<(Vec<Addend>
         })?;
         rest = after;
     }
-    Ok((items, rest))
+    Ok((fitting(items), rest))
 }
 
 /// `term = factor {muloperator factor}`.
@@ -138,7 +138,7 @@ fn multipliers(
         })?;
         rest = after;
     }
-    Ok((items, rest))
+    Ok((fitting(items), rest))
 }
 
 /// `factor = integer | string | TRUE | FALSE | set | designator | "(" expr ")" | "~" factor`.
@@ -276,7 +276,7 @@ fn more_elements(
         items.push(NextElement { comma, element })?;
         rest = after;
     }
-    Ok((items, rest))
+    Ok((fitting(items), rest))
 }
 
 /// `element = expr [".." expr]`.
@@ -324,7 +324,7 @@ pub fn selectors(
         items.push(one)?;
         rest = after;
     }
-    Ok((items, rest))
+    Ok((fitting(items), rest))
 }
 
 /// `selector = "." ident | "[" exprs "]" | "(" [exprs] ")"`, if one stands here.
@@ -458,5 +458,5 @@ fn more_exprs(
         items.push(NextExpr { comma, expr })?;
         rest = after;
     }
-    Ok((items, rest))
+    Ok((fitting(items), rest))
 }

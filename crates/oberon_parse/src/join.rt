@@ -22,6 +22,15 @@ pub fn keeping<'t, A: Drop, B>(
     Ok((found, rest, kept))
 }
 
+/// The list, without room for more: a build keeps its trees for long, and most of their lists are short.
+pub fn fitting<T>(list: Vec<T>) -> Vec<T>
+    ensures { result.items ≡ list.items }
+{
+    let mut list = list;
+    list.shrink_to_fit();
+    list
+}
+
 /// The symbol that has to stand behind a part, with the part in a box.
 pub fn closed<T: Drop>(
     alloc: Global,

@@ -13,7 +13,7 @@ ghost use Rattle.oberon_parse.specs.Machine.{expr_parts, statements_parts, guard
 ghost use Rattle.oberon_parse.specs.Reading.{ReadsParts, StopsAt};
 
 use crate::expression::{expr, selectors};
-use crate::join::keeping;
+use crate::join::{fitting, keeping};
 use crate::label::{first_value, rest_of_labels};
 use crate::read::{ident, need_ident, need_symbol, need_word, one_less, symbol, word};
 use crate::stop::Stop;
@@ -66,7 +66,7 @@ fn more_statements(
         })?;
         rest = after;
     }
-    Ok((items, rest))
+    Ok((fitting(items), rest))
 }
 
 /// `stmt = [designator [":=" expr] | if | case | while | repeat | for]`.
@@ -178,7 +178,7 @@ fn elsifs(
         })?;
         rest = after;
     }
-    Ok((items, rest))
+    Ok((fitting(items), rest))
 }
 
 /// `expr THEN stmts {ELSIF expr THEN stmts}`, or the same with DO.
@@ -350,7 +350,7 @@ fn more_arms(
         items.push(NextArm { bar, arm })?;
         rest = after;
     }
-    Ok((items, rest))
+    Ok((fitting(items), rest))
 }
 
 /// What stands behind WHILE.

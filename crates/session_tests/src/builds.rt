@@ -261,6 +261,81 @@ const TARGETS: [Case<'static>; 3] = [
     ),
 ];
 
+const OF_APP_AND_TESTS: &str = "{\"uri\":\"file:///w/?id=app\"},{\"uri\":\"file:///w/?id=suite\"}";
+
+/// A library of eight modules, each on the one before, with an application and a test on it. One imports what it doesn't
+/// use, which fails no build.
+const LAYERS: Case<'static> = (
+    &[
+        (
+            b"oberon-build.json",
+            b"{\"version\":1,\"targets\":[{\"name\":\"lib\",\"kind\":\"library\",\"modules\":[\"M0.Mod\",\"M1.Mod\",\"M2.Mod\",\"M3.Mod\",\"M4.Mod\",\"M5.Mod\",\"M6.Mod\",\"M7.Mod\"]},{\"name\":\"app\",\"kind\":\"application\",\"modules\":[\"A0.Mod\",\"A1.Mod\",\"A2.Mod\",\"A3.Mod\"],\"dependencies\":[\"lib\"],\"main\":\"A0\"},{\"name\":\"suite\",\"kind\":\"test\",\"modules\":[\"T0.Mod\"],\"dependencies\":[\"lib\"]}]}",
+        ),
+        (
+            b"M0.Mod",
+            b"MODULE M0; CONST K* = 0; PROCEDURE P*(): INTEGER; RETURN K + 0 END P; END M0.",
+        ),
+        (
+            b"M1.Mod",
+            b"MODULE M1; IMPORT M0; CONST K* = 1; PROCEDURE P*(): INTEGER; RETURN M0.P() + K + 0 END P; END M1.",
+        ),
+        (
+            b"M2.Mod",
+            b"MODULE M2; IMPORT M1; CONST K* = 2; PROCEDURE P*(): INTEGER; RETURN M1.P() + K + 0 END P; END M2.",
+        ),
+        (
+            b"M3.Mod",
+            b"MODULE M3; IMPORT M2, Out; CONST K* = 3; PROCEDURE P*(): INTEGER; RETURN M2.P() + K + 0 END P; END M3.",
+        ),
+        (
+            b"M4.Mod",
+            b"MODULE M4; IMPORT M3; CONST K* = 4; PROCEDURE P*(): INTEGER; RETURN M3.P() + K + 0 END P; END M4.",
+        ),
+        (
+            b"M5.Mod",
+            b"MODULE M5; IMPORT M4; CONST K* = 5; PROCEDURE P*(): INTEGER; RETURN M4.P() + K + 0 END P; END M5.",
+        ),
+        (
+            b"M6.Mod",
+            b"MODULE M6; IMPORT M5; CONST K* = 6; PROCEDURE P*(): INTEGER; RETURN M5.P() + K + 0 END P; END M6.",
+        ),
+        (
+            b"M7.Mod",
+            b"MODULE M7; IMPORT M6; CONST K* = 7; PROCEDURE P*(): INTEGER; RETURN M6.P() + K + 0 END P; END M7.",
+        ),
+        (
+            b"A0.Mod",
+            b"MODULE A0; IMPORT Out, M1; BEGIN Out.Int(M1.P(), 0); Out.Ln END A0.",
+        ),
+        (
+            b"A1.Mod",
+            b"MODULE A1; IMPORT Out, M3; BEGIN Out.Int(M3.P(), 0); Out.Ln END A1.",
+        ),
+        (
+            b"A2.Mod",
+            b"MODULE A2; IMPORT Out, M5; BEGIN Out.Int(M5.P(), 0); Out.Ln END A2.",
+        ),
+        (
+            b"A3.Mod",
+            b"MODULE A3; IMPORT Out, M7; BEGIN Out.Int(M7.P(), 0); Out.Ln END A3.",
+        ),
+        (
+            b"T0.Mod",
+            b"MODULE T0; IMPORT M7; PROCEDURE TestP*; BEGIN ASSERT(M7.P() >= 0) END TestP; END T0.",
+        ),
+    ],
+    &[],
+    &[(
+        OF_APP_AND_TESTS,
+        &[(
+            "lib",
+            "M3.Mod",
+            &["0:22-0:25 2 unusedImport unused import: Out"],
+        )],
+        1,
+    )],
+);
+
 #[test]
 fn shows_cycles(rt: HostRuntime) -> Result<(), Fail> {
     for case in &CYCLES {
@@ -283,4 +358,9 @@ fn tells_targets_apart(rt: HostRuntime) -> Result<(), Fail> {
         expect_case(&rt, case)?;
     }
     Ok(())
+}
+
+#[test]
+fn compiles_layers(rt: HostRuntime) -> Result<(), Fail> {
+    expect_case(&rt, &LAYERS)
 }

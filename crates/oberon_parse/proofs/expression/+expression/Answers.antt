@@ -170,12 +170,12 @@ addends-loop-operator-preserved t c =
 
 pub addends-returns : goal.addends-returns
 addends-returns t c =
-    record {
+    rw c.fitting.ensures (record {
       spelled = c.loop-operator.invariant.spelled;
       moves = λ s. c.loop-operator.invariant.moves s ∙ skip (want.addends c.args.levels) (λ k. eqb (reach k) 7) (term_parts c.args.levels ++ (want.addends c.args.levels ∷ [])) s c.loop-operator.rest.now refl (λ k. refl) c.in_default.ensures.none;
       within = c.loop-operator.invariant.within;
       shorter = c.loop-operator.invariant.shorter;
-    }
+    })
 
 pub multipliers-returns-in_err-factor : goal.multipliers-returns-in_err-factor
 multipliers-returns-in_err-factor t c =
@@ -193,12 +193,12 @@ multipliers-loop-operator-preserved t c =
 
 pub multipliers-returns : goal.multipliers-returns
 multipliers-returns t c =
-    record {
+    rw c.fitting.ensures (record {
       spelled = c.loop-operator.invariant.spelled;
       moves = λ s. c.loop-operator.invariant.moves s ∙ skip (want.multipliers c.args.levels) (λ k. eqb (reach k) 8) (term_parts c.args.levels ++ []) s c.loop-operator.rest.now refl (λ k. refl) c.in_default.ensures.none;
       within = c.loop-operator.invariant.within;
       shorter = c.loop-operator.invariant.shorter;
-    }
+    })
 
 pub more_elements-returns-in_err-element : goal.more_elements-returns-in_err-element
 more_elements-returns-in_err-element t c =
@@ -216,12 +216,12 @@ more_elements-loop-comma-preserved t c =
 
 pub more_elements-returns : goal.more_elements-returns
 more_elements-returns t c =
-    record {
+    rw c.fitting.ensures (record {
       spelled = c.loop-comma.invariant.spelled;
       moves = λ s. c.loop-comma.invariant.moves s ∙ skip (want.elements c.args.levels) (is_symbol symbols.Comma) (element_parts c.args.levels ++ (want.elements c.args.levels ∷ [])) s c.loop-comma.rest.now refl (λ k. refl) c.in_default.ensures.none;
       within = c.loop-comma.invariant.within;
       shorter = c.loop-comma.invariant.shorter;
-    }
+    })
 
 pub more_exprs-returns-in_err-expr : goal.more_exprs-returns-in_err-expr
 more_exprs-returns-in_err-expr t c =
@@ -239,12 +239,12 @@ more_exprs-loop-comma-preserved t c =
 
 pub more_exprs-returns : goal.more_exprs-returns
 more_exprs-returns t c =
-    record {
+    rw c.fitting.ensures (record {
       spelled = c.loop-comma.invariant.spelled;
       moves = λ s. c.loop-comma.invariant.moves s ∙ skip (want.exprs c.args.levels) (is_symbol symbols.Comma) (exprs_parts c.args.levels ++ []) s c.loop-comma.rest.now refl (λ k. refl) c.in_default.ensures.none;
       within = c.loop-comma.invariant.within;
       shorter = c.loop-comma.invariant.shorter;
-    }
+    })
 
 pub group-returns-in_err-inner : goal.group-returns-in_err-inner
 group-returns-in_err-inner t c =
@@ -453,12 +453,12 @@ selectors-loop-items-preserved t c =
 pub selectors-returns : goal.selectors-returns
 selectors-returns t c =
     let h = rw c.in_default.is at c.in_ok-one.ensures in
-    record {
+    rw c.fitting.ensures (record {
       spelled = c.loop-items.invariant.spelled;
       moves = λ s. c.loop-items.invariant.moves s ∙ skip_selectors c.args.levels s c.loop-items.rest.now h.0 h.1 h.2;
       within = c.loop-items.invariant.within;
       shorter = c.loop-items.invariant.shorter;
-    }
+    })
 
 pub expr-simple-requires : goal.expr-simple-requires
 expr-simple-requires t c = omega arith

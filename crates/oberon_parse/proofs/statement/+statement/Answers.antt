@@ -29,12 +29,12 @@ more_statements-loop-semicolon-preserved t c =
 
 pub more_statements-returns : goal.more_statements-returns
 more_statements-returns t c =
-    record {
+    rw c.fitting.ensures (record {
       spelled = c.loop-semicolon.invariant.spelled;
       moves = λ s. c.loop-semicolon.invariant.moves s ∙ skip (want.statements c.args.levels) (is_symbol symbols.Semicolon) (statements_parts c.args.levels ++ []) s c.loop-semicolon.rest.now refl (λ k. refl) c.in_default.ensures.none;
       within = c.loop-semicolon.invariant.within;
       shorter = c.loop-semicolon.invariant.shorter;
-    }
+    })
 
 pub statement-returns-in_err-inner : goal.statement-returns-in_err-inner
 statement-returns-in_err-inner t c =
@@ -92,12 +92,12 @@ elsifs-loop-span-preserved t c =
 
 pub elsifs-returns : goal.elsifs-returns
 elsifs-returns t c =
-    record {
+    rw c.fitting.ensures (record {
       spelled = c.loop-span.invariant.spelled;
       moves = λ s. c.loop-span.invariant.moves s ∙ skip (want.elsifs c.args.joint c.args.levels) (is_word words.Elsif) (guarded_parts c.args.joint c.args.levels ++ (want.elsifs c.args.joint c.args.levels ∷ [])) s c.loop-span.rest.now refl (λ k. refl) c.in_default.ensures.none;
       within = c.loop-span.invariant.within;
       shorter = c.loop-span.invariant.shorter;
-    }
+    })
 
 pub otherwise-returns-in_default : goal.otherwise-returns-in_default
 otherwise-returns-in_default t c =
@@ -138,12 +138,12 @@ more_arms-loop-bar-preserved t c =
 
 pub more_arms-returns : goal.more_arms-returns
 more_arms-returns t c =
-    record {
+    rw c.fitting.ensures (record {
       spelled = c.loop-bar.invariant.spelled;
       moves = λ s. c.loop-bar.invariant.moves s ∙ skip (want.arms c.args.levels) (is_symbol symbols.Bar) (want.arm c.args.levels ∷ (want.arms c.args.levels ∷ [])) s c.loop-bar.rest.now refl (λ k. refl) c.in_default.ensures.none;
       within = c.loop-bar.invariant.within;
       shorter = c.loop-bar.invariant.shorter;
-    }
+    })
 
 pub statements-returns-in_err-first : goal.statements-returns-in_err-first
 statements-returns-in_err-first t c =
