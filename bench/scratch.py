@@ -29,6 +29,14 @@ def below(crates, lines):
     return found
 
 
+def link(source, to):
+    """Makes a file stand in a second place too, or a copy of it where the places lie on different disks."""
+    try:
+        os.link(source, to)
+    except OSError:
+        shutil.copy2(source, to)
+
+
 def copy_crate(crate, folder):
     """A crate's sources, with the library that was built of them, if it was: what is proved isn't proved again then."""
     own = ROOT / "crates" / crate
@@ -36,7 +44,7 @@ def copy_crate(crate, folder):
         if (own / part).is_dir():
             shutil.copytree(own / part, folder / "crates" / crate / part)
     if (own / "out" / "rlib").is_dir():
-        shutil.copytree(own / "out" / "rlib", folder / "crates" / crate / "out" / "rlib")
+        shutil.copytree(own / "out" / "rlib", folder / "crates" / crate / "out" / "rlib", copy_function=link)
 
 
 def built(folder, name, text, libraries):
