@@ -1,0 +1,9 @@
+pub mod One
+pub mod Leaves
+pub mod Names
+pub mod Expressions
+pub mod Types
+pub mod Statements
+pub mod Declarations
+pub mod Procedures
+pub mod OneTree
