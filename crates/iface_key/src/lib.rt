@@ -1,0 +1,6 @@
+//! Keys.
+#![tactic(auto)]
+
+mod laws;
+
+pub use laws::one_key;
