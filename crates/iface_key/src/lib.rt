@@ -3,4 +3,4 @@
 
 mod laws;
 
-pub use laws::one_key;
+pub use laws::{one_key, one_view};
