@@ -51,16 +51,16 @@ integer_one (negsuc n) (pos m) r s e = absurd (even_odd m n (sym ((number_one (2
 
 -- ---- texts and lists
 
-abbrev byte_then : Bool → ℕ → List ℕ → List ℕ
+abbrev pub byte_then : Bool → ℕ → List ℕ → List ℕ
 byte_then small b rest = if small then 1 ∷ b ∷ rest else b ∷ rest
 
-more_one : (b c : ℕ) (x y : List ℕ) (p q : Bool) → nat_lt b 2 ≡ p → nat_lt c 2 ≡ q → byte_then p b x ≡ byte_then q c y → (b ≡ c) × (x ≡ y)
+pub more_one : (b c : ℕ) (x y : List ℕ) (p q : Bool) → nat_lt b 2 ≡ p → nat_lt c 2 ≡ q → byte_then p b x ≡ byte_then q c y → (b ≡ c) × (x ≡ y)
 more_one b c x y true true low under e = (cc, cc)
 more_one b c x y false false low under e = (cc, cc)
 more_one b c x y true false low under e = let h : 2 ≤ c = ltb-false c 2 under in let k : 1 ≡ c = cc in absurd (omega arith)
 more_one b c x y false true low under e = let h : 2 ≤ b = ltb-false b 2 low in let k : b ≡ 1 = cc in absurd (omega arith)
 
-not_end : (b : ℕ) (x r : List ℕ) (p : Bool) → nat_lt b 2 ≡ p → 0 ∷ r ≡ byte_then p b x → ⊥
+pub not_end : (b : ℕ) (x r : List ℕ) (p : Bool) → nat_lt b 2 ≡ p → 0 ∷ r ≡ byte_then p b x → ⊥
 not_end b x r true low e = cc
 not_end b x r false low e = let h : 2 ≤ b = ltb-false b 2 low in let k : 0 ≡ b = cc in omega arith
 
