@@ -1,0 +1,3 @@
+pub mod FilterLaws
+pub mod SameLaws
+pub mod StoreLaws

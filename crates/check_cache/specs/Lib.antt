@@ -1,0 +1,4 @@
+pub mod Facts
+pub mod Pairs
+pub mod Places
+pub mod Wanted

@@ -1,0 +1,103 @@
+ghost use Rattle.std.specs.Prelude.{◌≡◌, ◌↔◌, IsTrue};
+ghost use Rattle.check_cache.specs.Facts.{IsFact, fact_of};
+
+use crate::same::{both, same_held, same_imports};
+use iface_key::Key;
+use ob_text::{Held, Name};
+use oberon_module::Checked;
+use std::marker::Model;
+
+/// A check that was made.
+#[derive(Drop)]
+pub struct Fact {
+    held: Held,
+    stem: Name,
+    imports: Vec<(Name, u64)>,
+    keys: Vec<Key>,
+    checked: Checked,
+}
+
+impl Model for Fact {
+    ghost use Rattle.check_cache.specs.Facts.{FactTree, IsFact, fact_of};
+    ghost use Rattle.oberon_module.specs.contracts.check.Checked as checks;
+    ghost use Rattle.std.specs.Coded.{codes};
+
+    ghost Value = { FactTree };
+
+    ghost coded = { Prim.hlevel (codes, checks.the_row.coded) };
+
+    ghost view = { λ f. fact_of f.held f.stem f.imports.items f.keys.items f.checked };
+
+    ghost invariant = { λ f. IsFact (fact_of f.held f.stem f.imports.items f.keys.items f.checked) };
+}
+
+impl Fact {
+    ghost use Rattle.check_cache.specs.Wanted.{HasText, IsOf};
+
+    /// Keeps a check. Takes no memory.
+    pub fn new(
+        held: Held,
+        stem: Name,
+        imports: Vec<(Name, u64)>,
+        keys: Vec<Key>,
+        checked: Checked,
+    ) -> Fact
+        requires { IsFact (fact_of held stem imports.items keys.items checked) }
+        ensures { result ≡ fact_of held stem imports.items keys.items checked }
+    {
+        Fact {
+            held,
+            stem,
+            imports,
+            keys,
+            checked,
+        }
+    }
+
+    pub fn held(&self) -> &Held
+        ensures { result.now ≡ self.now.held }
+    {
+        &self.held
+    }
+
+    pub fn stem(&self) -> &Name
+        ensures { result.now ≡ self.now.stem }
+    {
+        &self.stem
+    }
+
+    pub fn imports(&self) -> &[(Name, u64)]
+        ensures { result.now ≡ self.now.imports }
+    {
+        self.imports.as_slice()
+    }
+
+    pub fn keys(&self) -> &[Key]
+        ensures { result.now ≡ self.now.keys }
+    {
+        self.keys.as_slice()
+    }
+
+    pub fn checked(&self) -> &Checked
+        ensures checked { result.now ≡ self.now.checked }
+        ensures sound { IsFact self.now }
+    {
+        &self.checked
+    }
+
+    /// Whether it is of this text and these imports.
+    pub(crate) fn is_of(&self, held: &Held, imports: &[(Name, u64)]) -> bool
+        ensures { IsTrue result ↔ IsOf held.now imports.now self.now }
+    {
+        let text = same_held(self.held(), held);
+        let numbers = same_imports(self.imports(), imports);
+        both(text, numbers)
+    }
+
+    /// Whether it is of this text.
+    pub(crate) fn has_text(&self, held: &Held) -> bool
+        ensures { IsTrue result ↔ HasText held.now self.now }
+    {
+        same_held(self.held(), held)
+    }
+}

@@ -1,0 +1,40 @@
+ghost use Rattle.std.specs.Prelude.{◌≡◌, not, filter};
+ghost use Rattle.check_cache.specs.Pairs.{has_target, is_among};
+
+use crate::fact::Fact;
+use crate::pair::PairKey;
+use indexmap::IndexMap;
+
+/// Takes out what is kept of the pairs of these targets.
+pub fn drop_of(map: &mut IndexMap<PairKey, Fact>, targets: &[u32])
+    ensures { map.new.entries ≡ filter (λ e. not (has_target targets.now e.0)) map.old.entries }
+{
+    map.retain(
+        |key: &PairKey, fact: &mut Fact| -> bool
+            ensures { (result ≡ not (has_target targets.entry.now key.now)) × (fact.new ≡ fact.old) }
+        { !has_target(targets, key) },
+    );
+}
+
+fn has_target(targets: &[u32], key: &PairKey) -> bool
+    ensures { result ≡ has_target targets.now key.now }
+{
+    targets.iter().any(|target| *target == key.target)
+}
+
+/// Takes out what is kept of all pairs but these.
+pub fn keep_of(map: &mut IndexMap<PairKey, Fact>, pairs: &[PairKey])
+    ensures { map.new.entries ≡ filter (λ e. is_among pairs.now e.0) map.old.entries }
+{
+    map.retain(
+        |key: &PairKey, fact: &mut Fact| -> bool
+            ensures { (result ≡ is_among pairs.entry.now key.now) × (fact.new ≡ fact.old) }
+        { is_among(pairs, key) },
+    );
+}
+
+fn is_among(pairs: &[PairKey], key: &PairKey) -> bool
+    ensures { result ≡ is_among pairs.now key.now }
+{
+    pairs.iter().any(|pair| pair == key)
+}

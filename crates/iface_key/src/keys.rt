@@ -1,0 +1,54 @@
+use crate::key::Key;
+use indexmap::IndexSet;
+use ob_text::NoMemory;
+use std::alloc::Global;
+use std::marker::Model;
+
+/// How many keys there is room for at first.
+const FIRST_ROOM: usize = 16;
+
+/// Keys with a number each, in the order in which they came. A number stays with its key.
+#[derive(Drop)]
+pub struct Keys {
+    keys: IndexSet<Key>,
+}
+
+/// Contracts see the list of the keys, in which each stands at its number.
+impl Model for Keys {
+    ghost use Rattle.std.specs.Prelude.{ℕ, List};
+
+    ghost Value = { List (List ℕ) };
+
+    ghost view = { λ k. k.keys.keys };
+}
+
+impl Keys {
+    ghost use Rattle.std.specs.Prelude.{◌≡◌, ◌↔◌, ℕ, List, [], slice_get, IfOk, OnOk, OnErr, IsTrue};
+
+    /// No key has a number.
+    pub fn new(alloc: Global) -> Result<Keys, NoMemory>
+        ensures { IfOk result (λ k. k ≡ []) }
+    {
+        let keys = IndexSet::with_capacity(alloc, FIRST_ROOM)?;
+        Ok(Keys { keys })
+    }
+
+    /// The number of a key: the one that it has, or else the next that none has.
+    pub fn intern(&mut self, key: Key) -> Result<u64, NoMemory>
+        ensures number { IfOk result (λ n. slice_get self.new n ≡ Some key) }
+        ensures only { IfOk result (λ n. (m : ℕ) → slice_get self.new m ≡ Some key → m ≡ n) }
+        ensures earlier { OnOk result ((m : ℕ) (k : List ℕ) → slice_get self.old m ≡ Some k → slice_get self.new m ≡ Some k) }
+        ensures unchanged { OnErr result (self.new ≡ self.old) }
+    {
+        let (index, _is_new) = self.keys.insert_full(key)?;
+        Ok(index as u64)
+    }
+
+    /// Whether two numbers that were given stand for one key. Takes no memory.
+    pub fn same(&self, a: u64, b: u64) -> bool
+        ensures { (k l : List ℕ) → slice_get self.now a ≡ Some k → slice_get self.now b ≡ Some l → IsTrue result ↔ (k ≡ l) }
+    {
+        let _count = self.keys.len();
+        a == b
+    }
+}

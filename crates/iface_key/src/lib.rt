@@ -1,0 +1,12 @@
+//! Keys.
+#![tactic(auto)]
+
+mod key;
+mod keys;
+mod laws;
+mod printing;
+
+pub use key::{Key, KeyKind};
+pub use keys::Keys;
+pub use laws::{one_key, one_view};
+pub use printing::key_of;
