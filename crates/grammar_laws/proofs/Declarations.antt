@@ -4,7 +4,7 @@ use Rattle.std.proofs.Common.{arith}
 use Rattle.oberon_scan.specs.declared.token.Token.{Token}
 use Rattle.oberon_scan.specs.declared.token.Symbol.TheVariants as symbols
 use Rattle.oberon_tree.specs.Tokens.{symbol_token}
-use Rattle.oberon_tree.specs.Trees.{TypesTree, VariablesTree, LocalVariablesTree}
+use Rattle.oberon_tree.specs.Trees.{ConstantsTree, TypesTree, VariablesTree, DeclarationsTree, LocalVariablesTree}
 use Rattle.oberon_tree.specs.Print.{print_each, print_some, print_expr, print_type, print_constant, print_constants, print_type_declaration, print_types, print_variable, print_variables, print_declarations, print_local_constant, print_local_constants, print_local_variable, print_local_variables, print_locals}
 use Rattle.grammar_laws.proofs.One.{One, Before, Any, stages, head_one, rest_one, span_one, each_one, some_one}
 use Rattle.grammar_laws.proofs.Leaves.{ident_one}
@@ -84,6 +84,13 @@ variables_next (Some x) r h = omega arith
 types_next : (x : Option TypesTree) (r : List Token) → Before 5 r → Before 6 (print_some print_types x r)
 types_next None r h = omega arith
 types_next (Some x) r h = omega arith
+
+constants_next : (x : Option ConstantsTree) (r : List Token) → Before 6 r → Before 8 (print_some print_constants x r)
+constants_next None r h = omega arith
+constants_next (Some x) r h = omega arith
+
+pub declarations_next : (x : DeclarationsTree) (r : List Token) → Before 4 r → Before 8 (print_declarations x r)
+declarations_next x r h = constants_next x.constants _ (types_next x.types _ (variables_next x.variables r h))
 
 pub declarations_one : One print_declarations (Before 4)
 declarations_one a b r s h k e =

@@ -3,6 +3,7 @@ use Rattle.std.specs.Prelude.{◌≡◌, ℕ, true, List, ◌∷◌, Some, None,
 use Rattle.std.proofs.Common.{sym, ◌∙◌, ap, arith}
 use Rattle.ob_text.specs.declared.span.Span.{Span}
 use Rattle.oberon_scan.specs.declared.token.Token.{Token}
+use Rattle.oberon_scan.specs.declared.token.Word.TheVariants as words
 use Rattle.oberon_scan.specs.declared.token.Symbol.TheVariants as symbols
 use Rattle.oberon_tree.specs.declared.expression.Sign.{Sign}
 use Rattle.oberon_tree.specs.declared.expression.Sign.TheVariants as signs
@@ -14,7 +15,7 @@ use Rattle.oberon_parse.specs.Tests.{is_symbol, is_sign, next_is}
 use Rattle.oberon_parse.proofs.Follows.{next_reach}
 use Rattle.oberon_parse.proofs.ForthExpressions.{relator_rank, add_rank, mul_rank, expr_opens}
 use Rattle.grammar_laws.proofs.One.{One, Under, Lacks, Any, begins, head_one, rest_one, span_one}
-use Rattle.grammar_laws.proofs.Leaves.{next_code, ident_one, integer_one, string_one, sign_one, relator_one, add_one, mul_one}
+use Rattle.grammar_laws.proofs.Leaves.{ident_code, integer_code, string_code, code_of_word, code_of_symbol, next_code, ident_one, integer_one, string_one, sign_one, relator_one, add_one, mul_one}
 use Rattle.grammar_laws.proofs.Names.{member_one}
 
 -- ---- what follows a part
@@ -46,14 +47,14 @@ more_exprs_next (more_exprs comma e more) r h = omega arith
 -- ---- the token that a factor or a selector begins with
 
 abbrev factor_code : FactorTree → ℕ
-factor_code (integer_factor n) = 2
-factor_code (string_factor t) = 3
-factor_code (true_factor span) = 32
-factor_code (false_factor span) = 14
-factor_code (set_factor x) = 54
-factor_code (designator_factor d) = 1
-factor_code (group_factor a e b) = 50
-factor_code (negation_factor span f) = 44
+factor_code (integer_factor n) = integer_code
+factor_code (string_factor t) = string_code
+factor_code (true_factor span) = code_of_word words.True
+factor_code (false_factor span) = code_of_word words.False
+factor_code (set_factor x) = code_of_symbol symbols.OpenBrace
+factor_code (designator_factor d) = ident_code
+factor_code (group_factor a e b) = code_of_symbol symbols.OpenParen
+factor_code (negation_factor span f) = code_of_symbol symbols.Tilde
 
 factor_begins : (f : FactorTree) (r : List Token) → next_code (print_factor f r) ≡ factor_code f
 factor_begins (integer_factor n) r = refl

@@ -5,7 +5,9 @@ use Rattle.ob_text.specs.declared.span.Span.{Span}
 use Rattle.oberon_scan.specs.declared.token.Token.{Token}
 use Rattle.oberon_scan.specs.declared.token.TokenKind.{TokenKind}
 use Rattle.oberon_scan.specs.declared.token.TokenKind.TheVariants as kinds
+use Rattle.oberon_scan.specs.declared.token.Word.{Word}
 use Rattle.oberon_scan.specs.declared.token.Word.TheVariants as words
+use Rattle.oberon_scan.specs.declared.token.Symbol.{Symbol}
 use Rattle.oberon_scan.specs.declared.token.Symbol.TheVariants as symbols
 use Rattle.oberon_tree.specs.declared.leaf.Ident.{Ident}
 use Rattle.oberon_tree.specs.declared.leaf.IntegerLiteral.{IntegerLiteral}
@@ -25,12 +27,27 @@ use Rattle.grammar_laws.proofs.One.{One, Any, head_one, rest_one, span_one}
 
 -- ---- which token it is, as a number
 
+abbrev pub ident_code : ℕ
+ident_code = 1
+
+abbrev pub integer_code : ℕ
+integer_code = 2
+
+abbrev pub string_code : ℕ
+string_code = 3
+
+abbrev pub code_of_word : Word → ℕ
+code_of_word w = 4 + word_code w
+
+abbrev pub code_of_symbol : Symbol → ℕ
+code_of_symbol s = 40 + symbol_code s
+
 abbrev pub code : TokenKind → ℕ
-code (kinds.Ident x) = 1
-code (kinds.Integer x) = 2
-code (kinds.Str x) = 3
-code (kinds.Word w) = 4 + word_code w
-code (kinds.Symbol s) = 40 + symbol_code s
+code (kinds.Ident x) = ident_code
+code (kinds.Integer x) = integer_code
+code (kinds.Str x) = string_code
+code (kinds.Word w) = code_of_word w
+code (kinds.Symbol s) = code_of_symbol s
 
 -- the same of the next token of a list
 abbrev pub next_code : List Token → ℕ

@@ -30,9 +30,6 @@ Lacks test ts = next_is test ts ≡ false
 abbrev pub Any : List Token → Type 0
 Any ts = Unit {0}
 
-pub any : (ts : List Token) → Any ts
-any ts = tt
-
 -- ---- what does not follow
 
 pub reaches : (n : ℕ) (r q : List Token) → n ≤ next_reach q → Under n r → ¬ (r ≡ q)

@@ -1,5 +1,5 @@
 -- The tokens of a module are those of one tree, and so is a text.
-use Rattle.std.specs.Prelude.{◌≡◌, ℕ, List, [], ◌∷◌, Option, Some, None, refl}
+use Rattle.std.specs.Prelude.{◌≡◌, ℕ, List, [], ◌∷◌, refl}
 use Rattle.std.proofs.Common.{sym, ◌∙◌, arith}
 use Rattle.ob_text.specs.declared.diagnostic.Diagnostic.{Diagnostic}
 use Rattle.ob_text.specs.declared.span.Span.{Span}
@@ -10,13 +10,13 @@ use Rattle.oberon_scan.specs.Lexis.{Lex}
 use Rattle.oberon_scan.proofs.OneCut.{one_cut}
 use Rattle.oberon_tree.specs.declared.module.NextImport.{NextImport}
 use Rattle.oberon_tree.specs.Tokens.{symbol_token, word_token, ident_token}
-use Rattle.oberon_tree.specs.Trees.{ConstantsTree, TypesTree, VariablesTree, DeclarationsTree, ModuleTree}
-use Rattle.oberon_tree.specs.Print.{print_each, print_some, print_constants, print_types, print_variables, print_declarations, print_alias, print_import, print_next_import, print_imports, print_procedure_item, print_body, print_module, tokens_of}
+use Rattle.oberon_tree.specs.Trees.{ModuleTree}
+use Rattle.oberon_tree.specs.Print.{print_each, print_some, print_declarations, print_alias, print_import, print_next_import, print_imports, print_procedure_item, print_body, print_module, tokens_of}
 use Rattle.oberon_parse.specs.Tests.{is_symbol}
 use Rattle.oberon_parse.proofs.Found.{no_symbol}
 use Rattle.grammar_laws.proofs.One.{One, Under, Before, Lacks, Any, reaches, stages, begins, head_one, rest_one, span_one, each_one, some_one}
 use Rattle.grammar_laws.proofs.Leaves.{ident_one}
-use Rattle.grammar_laws.proofs.Declarations.{declarations_one}
+use Rattle.grammar_laws.proofs.Declarations.{declarations_one, declarations_next}
 use Rattle.grammar_laws.proofs.Procedures.{EndsBody, some_body_one, body_next, procedures_one, procedures_next}
 
 -- ---- imports
@@ -58,21 +58,6 @@ some_imports_one : One (print_some print_imports) (Before 8)
 some_imports_one = some_one print_imports Any (Before 8) imports_one (λ r h. tt) (λ x q r. stages 8 r (print_imports x q) (omega arith))
 
 -- ---- the module
-
-variables_next : (x : Option VariablesTree) (r : List Token) → Before 4 r → Before 8 (print_some print_variables x r)
-variables_next None r h = omega arith
-variables_next (Some x) r h = omega arith
-
-types_next : (x : Option TypesTree) (r : List Token) → Before 8 r → Before 8 (print_some print_types x r)
-types_next None r h = h
-types_next (Some x) r h = omega arith
-
-constants_next : (x : Option ConstantsTree) (r : List Token) → Before 8 r → Before 8 (print_some print_constants x r)
-constants_next None r h = h
-constants_next (Some x) r h = omega arith
-
-declarations_next : (x : DeclarationsTree) (r : List Token) → Before 4 r → Before 8 (print_declarations x r)
-declarations_next x r h = constants_next x.constants _ (types_next x.types _ (variables_next x.variables r h))
 
 end_ends : (span : Span) (r : List Token) → EndsBody (word_token words.End span ∷ r)
 end_ends span r = record { later = omega arith; low = omega arith }

@@ -9,7 +9,7 @@ use Rattle.oberon_tree.specs.Trees.{TypeTree, named_type, array_type, record_typ
 use Rattle.oberon_tree.specs.Print.{print_some, print_base, print_type, print_record, print_field_lists, print_more_fields, print_fields}
 use Rattle.oberon_parse.proofs.Follows.{next_reach}
 use Rattle.grammar_laws.proofs.One.{One, Under, Any, reaches, rest_one, span_one, some_one}
-use Rattle.grammar_laws.proofs.Leaves.{next_code}
+use Rattle.grammar_laws.proofs.Leaves.{ident_code, code_of_word, next_code}
 use Rattle.grammar_laws.proofs.Names.{qualident_one, ident_defs_one}
 use Rattle.grammar_laws.proofs.Expressions.{exprs_one}
 
@@ -24,9 +24,9 @@ some_base_one = some_one print_base Any (Under 9) base_one (λ r h. tt) (λ x q 
 -- ---- what a part begins with, and what follows it
 
 abbrev type_code : TypeTree → ℕ
-type_code (named_type q) = 1
-type_code (array_type word es of_word t) = 4
-type_code (record_type x) = 27
+type_code (named_type q) = ident_code
+type_code (array_type word es of_word t) = code_of_word words.Array
+type_code (record_type x) = code_of_word words.Record
 
 type_begins : (t : TypeTree) (r : List Token) → next_code (print_type t r) ≡ type_code t
 type_begins (named_type q) r = refl
