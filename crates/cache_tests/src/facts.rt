@@ -115,10 +115,19 @@ fn views_of(alloc: Global, name: &Name, view: &View) -> Result<IndexMap<Name, Vi
 fn is_only(names: &[Name], name: &Name) -> bool
     ensures { IsTrue result → names.now ≡ name.now ∷ [] }
 {
-    match names {
-        [only] => only == name,
-        _ => false,
+    let Some((only, others)) = names.split_first() else {
+        return false;
+    };
+    if !others.is_empty() {
+        return false;
     }
+    same_name(only, name)
+}
+
+fn same_name(a: &Name, b: &Name) -> bool
+    ensures { IsTrue result → a.now ≡ b.now }
+{
+    a == b
 }
 
 fn importing(

@@ -1,6 +1,7 @@
 //! Which texts of a pair are found.
 use crate::facts::{fact_alone, held_of, pair};
 use check_cache::{Cache, PairKey};
+use indexmap::IndexSet;
 use std::alloc::Global;
 use std::test::Fail;
 
@@ -87,7 +88,9 @@ fn keeps_pairs(rt: HostRuntime) -> Result<(), Fail> {
         (1, "B.Mod", "000000000"),
     ] {
         let mut cache = three_pairs(alloc)?;
-        cache.keep_pairs(&[pair(alloc, target, path)?]);
+        let mut kept = IndexSet::new(alloc);
+        kept.insert(pair(alloc, target, path)?)?;
+        cache.keep_pairs(&kept);
         assert_eq!(rt; found_of_all(alloc, &cache)?.as_str(), want);
     }
     Ok(())

@@ -17,4 +17,4 @@ has_target targets pair = list_any (λ target. target == pair.target) targets
 
 -- the pair is one of these
 abbrev pub is_among : List PairKey → PairKey → Bool
-is_among pairs pair = list_any (λ other. same_pair other pair) pairs
+is_among pairs pair = list_any (same_pair pair) pairs

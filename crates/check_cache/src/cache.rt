@@ -9,7 +9,7 @@ use crate::choosing::{fitting, of_text};
 use crate::fact::Fact;
 use crate::keeping::{drop_of, keep_of};
 use crate::pair::PairKey;
-use indexmap::IndexMap;
+use indexmap::{IndexMap, IndexSet};
 use ob_text::{Held, Name, NoMemory};
 use std::alloc::Global;
 
@@ -124,7 +124,7 @@ impl Cache {
         Ok(())
     }
 
-    /// Forgets all facts of these targets. Takes no memory, and a step for each fact and target.
+    /// Forgets all facts of these targets. Takes no memory, and a step for each fact and each of these targets.
     pub fn drop_targets(&mut self, targets: &[u32])
         ensures first { (q : PairKey) → first_at self.new q
             ≡ (if has_target targets.now q then None else first_at self.old q) }
@@ -135,13 +135,12 @@ impl Cache {
         drop_of(&mut self.other, targets);
     }
 
-    /// Forgets all facts but those of these pairs. Takes no memory, and a step for each fact and pair: 2,097,152 at the most
-    /// for the 1,024 pairs of a workspace.
-    pub fn keep_pairs(&mut self, pairs: &[PairKey])
+    /// Forgets all facts but those of these pairs. Takes no memory, and one hash for each fact.
+    pub fn keep_pairs(&mut self, pairs: &IndexSet<PairKey>)
         ensures first { (q : PairKey) → first_at self.new q
-            ≡ (if is_among pairs.now q then first_at self.old q else None) }
+            ≡ (if is_among pairs.now.keys q then first_at self.old q else None) }
         ensures other { (q : PairKey) → other_at self.new q
-            ≡ (if is_among pairs.now q then other_at self.old q else None) }
+            ≡ (if is_among pairs.now.keys q then other_at self.old q else None) }
     {
         keep_of(&mut self.first, pairs);
         keep_of(&mut self.other, pairs);

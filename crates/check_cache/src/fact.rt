@@ -7,12 +7,14 @@ use ob_text::{Held, Name};
 use oberon_module::Checked;
 use std::marker::Model;
 
-/// A check that was made.
+/// A check that was made, with what it followed from. It is one by the rules, by what its type keeps.
 #[derive(Drop)]
 pub struct Fact {
     held: Held,
     stem: Name,
+    /// Each import with the number of the key of what it showed.
     imports: Vec<(Name, u64)>,
+    /// These keys, in the same order.
     keys: Vec<Key>,
     checked: Checked,
 }
@@ -54,30 +56,35 @@ impl Fact {
         }
     }
 
+    /// What was held at the document's path.
     pub fn held(&self) -> &Held
         ensures { result.now ≡ self.now.held }
     {
         &self.held
     }
 
+    /// The stem of the document's path.
     pub fn stem(&self) -> &Name
         ensures { result.now ≡ self.now.stem }
     {
         &self.stem
     }
 
+    /// The names of the imports, in the order of the text, each with the number of the key of what it showed.
     pub fn imports(&self) -> &[(Name, u64)]
         ensures { result.now ≡ self.now.imports }
     {
         self.imports.as_slice()
     }
 
+    /// These keys, in the same order.
     pub fn keys(&self) -> &[Key]
         ensures { result.now ≡ self.now.keys }
     {
         self.keys.as_slice()
     }
 
+    /// What the check found.
     pub fn checked(&self) -> &Checked
         ensures checked { result.now ≡ self.now.checked }
         ensures sound { IsFact self.now }

@@ -3,7 +3,7 @@ ghost use Rattle.check_cache.specs.Pairs.{has_target, is_among};
 
 use crate::fact::Fact;
 use crate::pair::PairKey;
-use indexmap::IndexMap;
+use indexmap::{IndexMap, IndexSet};
 
 /// Takes out what is kept of the pairs of these targets.
 pub fn drop_of(map: &mut IndexMap<PairKey, Fact>, targets: &[u32])
@@ -23,18 +23,18 @@ fn has_target(targets: &[u32], key: &PairKey) -> bool
 }
 
 /// Takes out what is kept of all pairs but these.
-pub fn keep_of(map: &mut IndexMap<PairKey, Fact>, pairs: &[PairKey])
-    ensures { map.new.entries ≡ filter (λ e. is_among pairs.now e.0) map.old.entries }
+pub fn keep_of(map: &mut IndexMap<PairKey, Fact>, pairs: &IndexSet<PairKey>)
+    ensures { map.new.entries ≡ filter (λ e. is_among pairs.now.keys e.0) map.old.entries }
 {
     map.retain(
         |key: &PairKey, fact: &mut Fact| -> bool
-            ensures { (result ≡ is_among pairs.entry.now key.now) × (fact.new ≡ fact.old) }
+            ensures { (result ≡ is_among pairs.entry.now.keys key.now) × (fact.new ≡ fact.old) }
         { is_among(pairs, key) },
     );
 }
 
-fn is_among(pairs: &[PairKey], key: &PairKey) -> bool
-    ensures { result ≡ is_among pairs.now key.now }
+fn is_among(pairs: &IndexSet<PairKey>, key: &PairKey) -> bool
+    ensures { result ≡ is_among pairs.now.keys key.now }
 {
-    pairs.iter().any(|pair| pair == key)
+    pairs.contains(key)
 }
