@@ -1,3 +1,5 @@
 pub mod KeyLaws
+pub mod Listed
 pub mod OneWay
 pub mod PutLaws
+pub mod ReadLaws

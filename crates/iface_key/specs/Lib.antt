@@ -1,4 +1,5 @@
 pub mod Keys
 pub mod Laws
 pub mod Printed
+pub mod Read
 pub mod Views

@@ -1,10 +1,12 @@
 //! Keys.
 #![tactic(auto)]
 
+mod fault;
 mod key;
 mod keys;
 mod laws;
 mod printing;
+mod reading;
 
 pub use key::{Key, KeyKind};
 pub use keys::Keys;
