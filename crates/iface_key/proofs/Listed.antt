@@ -1,5 +1,5 @@
 -- A list that is read item by item: what has been read stands in front of the rest that is left.
-use Rattle.std.specs.Prelude.{ℕ, ◌≡◌, ◌++◌, List, [], ◌∷◌, Option, Some, None, refl}
+use Rattle.std.specs.Prelude.{ℕ, ◌≡◌, ◌++◌, List, [], ◌∷◌, Option, Some, None, map, refl}
 use Rattle.std.proofs.Common.{ap, sym, ◌∙◌, subst}
 use Rattle.std.specs.Prelude.{Result, Err, MatchResult, IsErrAnd}
 use Rattle.std.proofs.lemmas.Result.{err_from_is_err_and}
@@ -59,3 +59,7 @@ module _ {A : Type 0} (next_then : Option A → List ℕ → List ℕ) (all_then
   pub so_far_last : (xs : List A) (o : Option A) (text left behind : List ℕ) → text ≡ so_far next_then xs left → left ≡ next_then o behind → o ≡ None → text ≡ all_then xs behind
   so_far_last xs o text left behind read next is =
       read ∙ ap (so_far next_then xs) (next ∙ ap (λ p. next_then p behind) is) ∙ so_far_end next_then all_then listing xs behind
+
+pub map_more : {A B : Type 0} (f : A → B) (xs : List A) (x : A) → map f (xs ++ x ∷ []) ≡ map f xs ++ f x ∷ []
+map_more f [] x = refl
+map_more f (y ∷ ys) x = ap (λ zs. f y ∷ zs) (map_more f ys x)

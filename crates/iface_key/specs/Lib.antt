@@ -2,4 +2,5 @@ pub mod Keys
 pub mod Laws
 pub mod Printed
 pub mod Read
+pub mod ReadTypes
 pub mod Views

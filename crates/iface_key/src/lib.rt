@@ -7,6 +7,8 @@ mod keys;
 mod laws;
 mod printing;
 mod reading;
+mod reading_parts;
+mod reading_types;
 
 pub use key::{Key, KeyKind};
 pub use keys::Keys;
