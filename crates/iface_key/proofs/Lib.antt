@@ -6,3 +6,4 @@ pub mod PartLaws
 pub mod PutLaws
 pub mod ReadLaws
 pub mod TypeLaws
+pub mod ViewLaws

@@ -3,4 +3,5 @@ pub mod Laws
 pub mod Printed
 pub mod Read
 pub mod ReadTypes
+pub mod ReadViews
 pub mod Views
