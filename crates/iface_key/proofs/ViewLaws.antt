@@ -1,5 +1,5 @@
 -- What is exported, as it is read.
-use Rattle.std.specs.Prelude.{ℕ, ◌<◌, ◌≡◌, ◌≢◌, ◌==◌, ◌++◌, Bool, true, false, cond, List, [], ◌∷◌, Option, Some, None, Result, Ok, Err, IfOk, MatchOption, MatchResult, map, length, suc, refl}
+use Rattle.std.specs.Prelude.{ℕ, ◌<◌, ◌≡◌, ◌≢◌, ◌==◌, ◌++◌, Bool, true, false, cond, List, [], ◌∷◌, Option, Some, None, Result, Ok, Err, IfOk, MatchOption, MatchResult, map, length, is_some, suc, refl}
 use Rattle.std.proofs.Common.{ap, sym, ◌∙◌, subst, arith}
 use Rattle.std.specs.Cmp.Lexicographic.{pointwise, same_text, other_text}
 use Rattle.std.specs.List.{All, AllByRecursion, IsDistinct}
@@ -162,3 +162,19 @@ more_behind key behind v read more w is of = more ((view_one v w _ _ (sym read �
 
 pub whole_key : (key behind : List ℕ) (v : ViewTree) → key ≡ view_then v behind → behind ≡ [] → KeyOf v key
 whole_key key behind v read empty = read ∙ ap (view_then v) empty
+
+pub opened : (key behind : List ℕ) (view : View) (r : Option View) → key ≡ view_then (plain_view view) behind → MatchOption r (behind ≢ []) (λ v. (v ≡ view) × (behind ≡ [])) → MatchOption r ((v : ViewTree) → IsView v → ¬ KeyOf v key) (λ v. KeyOf (plain_view v) key)
+opened key behind view None read m = more_behind key behind (plain_view view) read m
+opened key behind view (Some v) read m =
+    let Of : View → Type 0 = λ w. KeyOf (plain_view w) key in
+    subst Of (sym m.0) (whole_key key behind (plain_view view) read m.1)
+
+-- ---- what was there
+
+pub some_of : (o : Option Entity) → is_some o ≡ true → (v : Entity) × (o ≡ Some v)
+some_of None e = absurd cc
+some_of (Some v) e = (v, refl)
+
+pub none_of : (o : Option Entity) → is_some o ≡ false → o ≡ None
+none_of None e = refl
+none_of (Some v) e = absurd cc

@@ -1,4 +1,4 @@
-ghost use Rattle.std.specs.Prelude.{◌≡◌, ◌≢◌, [], IfOk, MatchOption};
+ghost use Rattle.std.specs.Prelude.{◌≡◌, ◌≢◌, [], is_some, IfOk, MatchOption};
 ghost use Rattle.std.specs.Option.{option_map};
 ghost use Rattle.oberon_types.specs.Entities.{ViewTree};
 ghost use Rattle.oberon_types.specs.Memory.{plain_ty, plain_param, plain_signature, plain_entity, plain_export, plain_view};
@@ -28,7 +28,7 @@ pub fn view_of(alloc: Global, key: &Key) -> Result<Option<View>, NoMemory>
     ensures { IfOk result (λ found. MatchOption found ((v : ViewTree) → IsView v → ¬ KeyOf v key.now) (λ view. KeyOf (plain_view view) key.now)) }
 {
     match read_view(alloc, key.as_slice()) {
-        Ok((view, behind)) => Ok(unless_more(view, behind)),
+        Ok(read) => Ok(unless_more(read.0, read.1)),
         Err(Fault::NoKey) => Ok(None),
         Err(Fault::NoMemory) => Err(NoMemory),
     }
@@ -145,9 +145,10 @@ fn read_exports(alloc: Global, text: &[u8]) -> Result<(Exports, &[u8]), Fault>
     'exports: loop {
         let (next, behind) = next_export(alloc, left)?;
         match next {
-            Some((name, entity)) => {
-                let old = entities.insert(name, entity)?;
-                if old.is_some() {
+            Some(export) => {
+                let old = entities.insert(export.0, export.1)?;
+                let is_twice = was_there(old);
+                if is_twice {
                     return Err(Fault::NoKey);
                 }
             }
@@ -155,6 +156,13 @@ fn read_exports(alloc: Global, text: &[u8]) -> Result<(Exports, &[u8]), Fault>
         }
         left = behind;
     }
+}
+
+/// Whether a name stood for something before.
+fn was_there(old: Option<Entity>) -> bool
+    ensures { result ≡ is_some old }
+{
+    old.is_some()
 }
 
 fn read_view(alloc: Global, text: &[u8]) -> Result<(View, &[u8]), Fault>
