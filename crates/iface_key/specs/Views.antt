@@ -33,12 +33,15 @@ IsType t = nesting t ≤ 4096
 abbrev pub IsParam : ParamTree → Type 0
 IsParam p = IsType p.ty
 
+abbrev pub AreParams : List ParamTree → Type 0
+AreParams ps = All IsParam ps
+
 abbrev pub IsResult : Option TyTree → Type 0
 IsResult None = Unit {0}
 IsResult (Some t) = IsType t
 
 abbrev pub IsSignature : SignatureTree → Type 0
-IsSignature s = All IsParam s.params × IsResult s.result_type
+IsSignature s = AreParams s.params × IsResult s.result_type
 
 abbrev pub IsEntity : EntityTree → Type 0
 IsEntity (constant_entity v) = Unit {0}
@@ -52,6 +55,9 @@ IsExport e = IsEntity e.entity
 abbrev pub export_names : List Export → List (List ℕ)
 export_names es = map (λ e. e.name) es
 
+abbrev pub AreExports : List Export → Type 0
+AreExports es = IsDistinct (pointwise ◌==◌) (export_names es) × All IsExport es
+
 abbrev pub IsView : ViewTree → Type 0
-IsView (exports_view es) = IsDistinct (pointwise ◌==◌) (export_names es) × All IsExport es
+IsView (exports_view es) = AreExports es
 IsView _ = Unit {0}
