@@ -1,4 +1,4 @@
-use crate::samples::{SAMPLES, sample, view};
+use crate::samples::{SAMPLES, numbered, view};
 use iface_key::{Key, Keys, key_of, one_key, one_view, view_of};
 use indexmap::IndexMap;
 use ob_text::{Name, NoMemory, Text};
@@ -12,11 +12,11 @@ use std::test::Fail;
 fn samples_differ(rt: HostRuntime) -> Result<(), Fail> {
     let mut keys = Keys::new(rt.alloc())?;
     for number in 0..SAMPLES {
-        let key = key_of(rt.alloc(), &view(rt.alloc(), sample(number))?)?;
+        let key = key_of(rt.alloc(), &view(rt.alloc(), numbered(number))?)?;
         assert_eq!(rt; keys.intern(key)?, number as u64);
     }
     for number in 0..SAMPLES {
-        let key = key_of(rt.alloc(), &view(rt.alloc(), sample(number))?)?;
+        let key = key_of(rt.alloc(), &view(rt.alloc(), numbered(number))?)?;
         assert_eq!(rt; keys.intern(key.copy(rt.alloc())?)?, number as u64);
         assert!(rt; keys.same(number as u64, number as u64));
         assert!(rt; !keys.same(number as u64, 20));
@@ -28,7 +28,7 @@ fn samples_differ(rt: HostRuntime) -> Result<(), Fail> {
 #[test]
 fn views_come_back(rt: HostRuntime) -> Result<(), Fail> {
     for number in 0..SAMPLES {
-        let key = key_of(rt.alloc(), &view(rt.alloc(), sample(number))?)?;
+        let key = key_of(rt.alloc(), &view(rt.alloc(), numbered(number))?)?;
         assert!(rt; comes_back(rt.alloc(), &key)?, "sample {number}");
     }
     Ok(())

@@ -52,7 +52,7 @@ fn first() -> Sample {
 }
 
 /// The sample of a number, which differs from the first in one thing.
-pub fn sample(number: u32) -> Sample {
+pub fn numbered(number: u32) -> Sample {
     let mut made = first();
     match number {
         1 => made.value = 8,
