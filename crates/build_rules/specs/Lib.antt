@@ -1,2 +1,3 @@
 pub mod World
 pub mod Views
+pub mod Locality

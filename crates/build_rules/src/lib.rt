@@ -5,3 +5,7 @@
 //! what a target sees, and on `build_plan` for paths of imports. It has no code but laws. Begin with `specs/World.antt`,
 //! and read `specs/Views.antt` behind it.
 #![tactic(auto)]
+
+mod laws;
+
+pub use laws::views_suffice;
