@@ -2,6 +2,7 @@ pub mod Homes
 pub mod ImportNames
 pub mod LocalViews
 pub mod OneImports
+pub mod OneState
 pub mod Reached
 pub mod SameImports
 pub mod ScopeHomes

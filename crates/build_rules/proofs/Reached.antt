@@ -25,7 +25,7 @@ pub record ImportsName (w : World) (p : ℕ) (name : List ℕ) : Type 0 where
   pub has : HasImports (held_in w p) names
   pub listed : Contains names name
 
-same_pair : (a b : Pair) → Some a ≡ Some b → a ≡ b
+pub same_pair : (a b : Pair) → Some a ≡ Some b → a ≡ b
 same_pair a b is = cc
 
 module _ (w : World) where
@@ -67,7 +67,7 @@ module _ (w : World) where
   sees_reached t p q s (beyond leads) = sees_way t leads.way p q s leads.is_way
 
   module _ (apart : IsApart w) where
-    one_stem : (t p q : ℕ) → Sees w.targets t p → Sees w.targets t q → stem_at w.targets p ≡ stem_at w.targets q → p ≡ q
+    pub one_stem : (t p q : ℕ) → Sees w.targets t p → Sees w.targets t q → stem_at w.targets p ≡ stem_at w.targets q → p ≡ q
     one_stem t p q s r same = by (cases_order p q)
       where
         by : (p ≡ q) ⊎ ((p < q) ⊎ (q < p)) → p ≡ q

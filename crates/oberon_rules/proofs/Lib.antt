@@ -9,7 +9,7 @@ mod DesignatorRows
 mod StatementRows
 mod LimitRows
 mod ViewRows
-mod OneList
+pub mod OneList
 pub mod Seen
 pub mod AgreeNames
 mod AgreeExpressions
