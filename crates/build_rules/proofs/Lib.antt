@@ -1,2 +1,13 @@
+pub mod Homes
+pub mod ImportNames
+pub mod LocalViews
 pub mod OneImports
+pub mod OneState
+pub mod Reached
+pub mod SameImports
+pub mod ScopeHomes
+pub mod SeenExports
+pub mod StateHomes
+pub mod Suffice
+pub mod TypeHomes
 pub mod Ways

@@ -1,2 +1,4 @@
 pub mod World
 pub mod Views
+pub mod Locality
+pub mod Determined

@@ -30,15 +30,19 @@ handed_at entries path = unwrap_or (held_at entries path) Absent
 abbrev pub held_in : World → ℕ → Held
 held_in w p = handed_at w.entries (path_at w.targets p)
 
--- the document is a module, which imports these
-pub record HasImports (held : Held) (names : List (List ℕ)) : Type 0 where
+-- the document is a module, and this is its tree
+pub record Parses (held : Held) (tree : ModuleTree) : Type 0 where
   pub text : List ℕ
   pub is : held ≡ Text text
   pub tokens : List Token
   pub lexis : Lex text tokens []
-  pub tree : ModuleTree
   pub printed : tokens_of tree ≡ tokens
   pub levels : depth_of_module tree ≤ most_levels
+
+-- the document is a module, which imports these
+pub record HasImports (held : Held) (names : List (List ℕ)) : Type 0 where
+  pub tree : ModuleTree
+  pub parsed : Parses held tree
   pub imported : names ≡ imports_in tree
 
 -- What a name means to a module: the module of that name which its target sees.

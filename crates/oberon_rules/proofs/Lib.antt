@@ -9,9 +9,9 @@ mod DesignatorRows
 mod StatementRows
 mod LimitRows
 mod ViewRows
-mod OneList
-mod Seen
-mod AgreeNames
+pub mod OneList
+pub mod Seen
+pub mod AgreeNames
 mod AgreeExpressions
 mod AgreeTypes
 mod AgreeRows
@@ -21,5 +21,5 @@ mod AgreeTypeRules
 mod AgreeStatements
 mod AgreeSections
 mod AgreeProcedures
-mod AgreeModule
-mod Foreign
+pub mod AgreeModule
+pub mod Foreign

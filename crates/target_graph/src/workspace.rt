@@ -2,7 +2,7 @@ ghost use Rattle.std.specs.Prelude.{◌≡◌, ◌≢◌, ◌<◌, ◌≤◌, �
 ghost use Rattle.std.specs.List.{AllPairs, flat_map};
 ghost use Rattle.target_graph.specs.Address.{target_address, document_address};
 ghost use Rattle.target_graph.specs.Closures.{AreClosures, lists};
-ghost use Rattle.target_graph.specs.Faults.{Accepted, IsRefusal, IsPlainRefusal, Passed};
+ghost use Rattle.target_graph.specs.Faults.{Accepted, IsRefusal, IsPlainRefusal, IsRepeat, Passed};
 ghost use Rattle.target_graph.specs.Kept.{IsSoundListing};
 ghost use Rattle.target_graph.specs.Listing.{IsListing, Accepts};
 ghost use Rattle.target_graph.specs.Names.{is_name, is_path};
@@ -145,6 +145,8 @@ impl Workspace {
         ensures distinct { AllPairs (λ p q. document_address self.now.root p.path
             ≡ document_address self.now.root q.path → id_of self.now p.target
             ≢ id_of self.now q.target) result.now }
+        // No target sees two of one stem.
+        ensures once { (target pair : ℕ) → ¬ (IsRepeat self.now.targets target pair) }
     {
         self.pairs.as_slice()
     }

@@ -1,6 +1,8 @@
 use Rattle.std.proofs.Common.{◌≡◌, ◌≢◌, ◌<◌, ℕ, List, length, All, true, ap, sym, subst, ◌∙◌}
 use Rattle.std.specs.List.{AllPairs}
 use Rattle.target_graph.specs.declared.target.Pair.{Pair}
+use Rattle.target_graph.specs.declared.target.Target.{Target}
+use Rattle.target_graph.specs.Faults.{IsRepeat}
 use Rattle.target_graph.specs.Names.{is_path}
 use Rattle.target_graph.specs.Workspace.{Space, pairs_of, AreValid}
 use Rattle.target_graph.proofs.PairLaws.{pairs_valid, pairs_within}
@@ -30,3 +32,6 @@ returns-clause-distinct c =
     pairs_apart s (subst (λ (names : List (List ℕ)). AllPairs ◌≢◌ names) kept.sound.names kept.sound.distinct) kept.once in
     subst (λ (w : Space). AllPairs (AreApart w) c.as_slice.result.now) c.self.view_is
     (subst (λ (xs : List Pair). AllPairs (AreApart s) xs) (sym (c.as_slice.ensures.value ∙ kept.pairs)) made)
+
+pub returns-clause-once : goal.returns-clause-once
+returns-clause-once c = subst (λ (xs : List Target). (t q : ℕ) → ¬ (IsRepeat xs t q)) (ap (λ (s : Space). s.targets) c.self.view_is) c.self.invariant.once
