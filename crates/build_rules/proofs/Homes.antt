@@ -5,7 +5,7 @@ use Rattle.std.specs.Option.{option_map}
 use Rattle.std.proofs.Common.{ap, ◌∙◌}
 use Rattle.oberon_types.specs.Types.{TyTree, unknown_ty, integer_ty, byte_ty, char_ty, boolean_ty, set_ty, string_ty, array_ty, open_ty, record_ty, RecordTree, record_of, BaseTree, no_base, base_of, FieldsTree, no_fields, more_fields, same_name}
 use Rattle.oberon_types.specs.Entities.{ParamTree, SignatureTree, EntityTree, constant_entity, type_entity, variable_entity, procedure_entity, Export, ViewTree, missing_view, broken_view, cyclic_view, exports_view}
-use Rattle.oberon_rules.specs.Views.{written, map_param, map_signature, map_entity, map_export, map_view, out_view}
+use Rattle.oberon_rules.specs.Views.{written, map_param, map_entity, map_export, map_view, out_view}
 use Rattle.oberon_rules.proofs.Seen.{seen}
 use Rattle.oberon_rules.proofs.Foreign.{IsForeign, IsForeignRecord, IsForeignBase, IsForeignFields, written_foreign}
 

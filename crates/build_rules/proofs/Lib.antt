@@ -1,10 +1,8 @@
 pub mod Homes
-pub mod ImportNames
 pub mod LocalViews
 pub mod OneImports
 pub mod OneState
 pub mod Reached
-pub mod SameImports
 pub mod ScopeHomes
 pub mod SeenExports
 pub mod StateHomes

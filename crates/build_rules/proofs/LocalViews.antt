@@ -1,5 +1,5 @@
 -- A check of a module by what its imports show as views finds the view of the module.
-use Rattle.std.proofs.Common.{◌≡◌, ◌⊎◌, inl, inr, ℕ, List, [], ◌∷◌, sym, ap, subst, ◌∙◌, refl}
+use Rattle.std.proofs.Common.{◌≡◌, inl, inr, ℕ, List, [], ◌∷◌, sym, ap, subst, ◌∙◌, refl}
 use Rattle.std.specs.Prelude.{Contains}
 use Rattle.ob_text.specs.declared.diagnostic.Diagnostic.{Diagnostic}
 use Rattle.ob_text.specs.declared.held.Held.{Held}
@@ -11,7 +11,7 @@ use Rattle.oberon_scan.specs.Lexis.{Lex}
 use Rattle.oberon_scan.specs.declared.token.Token.{Token}
 use Rattle.oberon_tree.specs.Trees.{ModuleTree}
 use Rattle.oberon_types.specs.Entities.{ViewTree}
-use Rattle.oberon_rules.specs.Local.{Local, TextLocal, FaultsLocal, TokensLocal, IsTreeless}
+use Rattle.oberon_rules.specs.Local.{Local, FaultsLocal, TokensLocal, IsTreeless}
 use Rattle.target_graph.specs.Workspace.{stem_at}
 use Rattle.build_rules.proofs.OneImports.{text_in}
 use Rattle.build_rules.specs.Views.{as_view, Shows, IsShown, IsCheck, HasView}

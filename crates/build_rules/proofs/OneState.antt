@@ -1,32 +1,27 @@
 -- A module has one state and one list, where no list of tokens is printed of two trees.
-use Rattle.std.proofs.Common.{◌≡◌, ◌⊎◌, inl, inr, ℕ, List, [], ◌∷◌, sym, ap, subst, ◌∙◌, refl}
+use Rattle.std.proofs.Common.{◌≡◌, ℕ, List, [], sym, ap, subst, ◌∙◌, refl}
 use Rattle.std.specs.Prelude.{Contains}
 use Rattle.ob_text.specs.declared.diagnostic.Diagnostic.{Diagnostic}
 use Rattle.ob_text.specs.declared.held.Held.{Held}
-use Rattle.ob_text.specs.declared.held.Held.TheVariants.{Text, Absent, TooLarge, NotText}
-use Rattle.oberon_check.proofs.Only as only
 use Rattle.oberon_imports.specs.Imports.{imports_in}
-use Rattle.oberon_parse.specs.Sentence.{most_levels}
 use Rattle.oberon_scan.proofs.OneCut.{one_cut}
 use Rattle.oberon_scan.specs.Lexis.{Lex}
-use Rattle.oberon_scan.specs.declared.token.Token.{Token}
 use Rattle.oberon_tree.specs.Print.{tokens_of}
 use Rattle.oberon_tree.specs.Trees.{ModuleTree}
 use Rattle.oberon_types.specs.Entities.{ViewTree}
 use Rattle.oberon_rules.proofs.OneList as rules
-use Rattle.oberon_rules.specs.Judged.{found, all_said, declared_view}
-use Rattle.oberon_rules.specs.Local.{Local, FaultsLocal, TokensLocal}
-use Rattle.oberon_rules.specs.Order.{IsListed}
+use Rattle.oberon_rules.specs.Judged.{declared_view}
 use Rattle.build_plan.proofs.LeadsLaws.{first_step}
 use Rattle.target_graph.specs.Workspace.{stem_at, IsVisible}
 use Rattle.target_graph.specs.declared.target.Pair.{Pair}
-use Rattle.build_rules.proofs.ImportNames.{each_import}
+use Rattle.document_laws.proofs.ImportNames.{each_import}
 use Rattle.build_rules.proofs.OneImports.{text_in}
 use Rattle.build_rules.proofs.Reached.{one_stem, same_pair}
-use Rattle.build_rules.proofs.SameImports.{same_all_said, same_declared}
+use Rattle.document_laws.proofs.Imported.{AgreeOn, same_declared}
+use Rattle.document_laws.proofs.OneDocument.{one_document}
 use Rattle.build_rules.specs.Determined.{IsDetermined}
 use Rattle.build_rules.specs.Locality.{IsApart}
-use Rattle.build_rules.specs.Views.{whole, HasNoTree, Shows, cyclic, treeless, declared, IsShown, of_module, of_none, HasState, HasList}
+use Rattle.build_rules.specs.Views.{whole, HasNoTree, Shows, cyclic, treeless, declared, IsShown, of_module, of_none, HasList}
 use Rattle.build_rules.specs.World.{World, held_in, Parses, Means, Imports, IsCyclic}
 
 abbrev pub AreTreesOne : Type 0
@@ -73,7 +68,7 @@ module _ (trees : AreTreesOne) where
       one_state p s t (declared a views acyclic parsed shown is) (treeless none) = absurd (none a parsed)
       one_state p s t (declared a views acyclic parsed shown is) (declared b others acyclic_too parsed_too shown_too is_too) =
           is ∙ declared_agree p a b (one_tree (held_in w p) a b parsed parsed_too) views others
-              (λ name listed listed_too. one_shown p name (views name) (others name) (shown name listed) (shown_too name listed_too))
+          (λ name listed listed_too. one_shown p name (views name) (others name) (shown name listed) (shown_too name listed_too))
           ∙ sym is_too
 
       pub one_shown : (p : ℕ) (name : List ℕ) (s t : ViewTree) → IsShown w whole p name s → IsShown w whole p name t → s ≡ t
@@ -84,51 +79,12 @@ module _ (trees : AreTreesOne) where
 
   -- ---- lists
 
-  -- two checks of a document by views that agree on its imports
-  module _ (held : Held) (me : List ℕ) (views others : List ℕ → ViewTree) (xs ys : List Diagnostic) (imports names : List (List ℕ)) (view other : ViewTree)
-      (same : (tree : ModuleTree) → Parses held tree → imports ≡ imports_in tree → names ≡ imports_in tree → all_said me views tree ≡ all_said me others tree) where
-    tokens_list : (text : List ℕ) (tokens : List Token) → held ≡ Text text → Lex text tokens [] → TokensLocal text tokens me views xs imports view → TokensLocal text tokens me others ys names other → xs ≡ ys
-    tokens_list text tokens is lexis (inl a) (inl b) =
-        let parsed : Parses held a.tree = record { text = text; is = is; tokens = tokens; lexis = lexis; printed = a.printed; levels = a.levels } in
-        let e : b.tree ≡ a.tree = trees b.tree a.tree (b.printed ∙ sym a.printed) in
-        rules.one_list (found text (all_said me others a.tree)) xs ys
-        (subst (λ said. IsListed (found text said) xs) (same a.tree parsed a.imported (b.imported ∙ ap imports_in e)) a.listed)
-        (subst (λ (t : ModuleTree). IsListed (found text (all_said me others t)) ys) e b.listed)
-    tokens_list text tokens is lexis (inl a) (inr b) = absurd (only.none_bad most_levels tokens b.0.index (a.tree, a.printed, a.levels) b.0.first)
-    tokens_list text tokens is lexis (inr a) (inl b) = absurd (only.none_bad most_levels tokens a.0.index (b.tree, b.printed, b.levels) a.0.first)
-    tokens_list text tokens is lexis (inr a) (inr b) =
-        only.one_list (Text text) xs ys
-        (record { tokens = tokens; faults = []; lexis = lexis; found = inr a.0 })
-        (record { tokens = tokens; faults = []; lexis = lexis; found = inr b.0 })
-
-    faults_list : (text : List ℕ) (tokens : List Token) (faults : List Diagnostic) → held ≡ Text text → Lex text tokens faults
-        → FaultsLocal text tokens faults me views xs imports view → FaultsLocal text tokens faults me others ys names other → xs ≡ ys
-    faults_list text tokens [] is lexis a b = tokens_list text tokens is lexis a b
-    faults_list text tokens (fault ∷ faults) is lexis a b = a.0 ∙ sym b.0
-
-    held_list : (given : Held) → held ≡ given → Local given me views xs imports view → Local given me others ys names other → xs ≡ ys
-    held_list (Text text) is a b =
-        let cut = one_cut b.lexis a.lexis in
-        let told : FaultsLocal text a.tokens a.faults me others ys names other =
-            subst (λ (tokens : List Token). FaultsLocal text tokens a.faults me others ys names other) cut.0
-            (subst (λ (faults : List Diagnostic). FaultsLocal text b.tokens faults me others ys names other) cut.1 b.told) in
-        faults_list text a.tokens a.faults is a.lexis a.told told
-    held_list Absent is a b = a.0 ∙ sym b.0
-    held_list TooLarge is a b = a.0 ∙ sym b.0
-    held_list NotText is a b = a.0 ∙ sym b.0
-
-    pub local_lists : Local held me views xs imports view → Local held me others ys names other → xs ≡ ys
-    local_lists a b = held_list held refl a b
-
   pub one_list : (w : World) → IsApart w → (p : ℕ) (xs ys : List Diagnostic) → HasList w p xs → HasList w p ys → xs ≡ ys
   one_list w apart p xs ys a b =
-      local_lists (held_in w p) (stem_at w.targets p) a.imported b.imported xs ys a.imports b.imports a.view b.view
-      (λ tree parsed first second. same_all_said a.imported b.imported (stem_at w.targets p) tree
-      (each_import (λ name. a.imported name ≡ b.imported name) tree
-      (λ name listed. one_shown w apart p name (a.imported name) (b.imported name)
-      (a.shown name (subst (λ (names : List (List ℕ)). Contains names name) (sym first) listed))
-      (b.shown name (subst (λ (names : List (List ℕ)). Contains names name) (sym second) listed)))))
-      a.check b.check
+      let alike : a.imports ≡ b.imports → AgreeOn a.imports a.imported b.imported =
+      λ same name listed. one_shown w apart p name (a.imported name) (b.imported name) (a.shown name listed)
+      (b.shown name (subst (λ (names : List (List ℕ)). Contains names name) same listed)) in
+      (one_document rules.one_list (held_in w p) (stem_at w.targets p) a.imported b.imported xs ys a.imports b.imports a.view b.view alike a.check b.check).0
 
 pub determined : (w : World) → AreTreesOne → IsApart w → IsDetermined w
 determined w trees apart = record {

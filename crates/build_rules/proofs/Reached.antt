@@ -1,16 +1,13 @@
 -- The modules that a module leads to by its imports: its target sees them, and so none of them has its stem where no
 -- target sees two modules of one stem.
-use Rattle.std.proofs.Common.{◌≡◌, ◌⊎◌, inl, inr, ℕ, ◌<◌, List, [], ◌∷◌, ◌++◌, sym, ap, subst, ◌∙◌, refl}
+use Rattle.std.proofs.Common.{◌≡◌, ◌⊎◌, inl, inr, ℕ, ◌<◌, List, [], ◌∷◌, ◌++◌, sym, subst, ◌∙◌, refl}
 use Rattle.std.specs.Prelude.{Contains, Some}
-use Rattle.std.specs.List.{slice_get}
 use Rattle.std.proofs.lemmas.Bool.{cases_order}
 use Rattle.build_plan.specs.Rows.{Leads, IsWay}
 use Rattle.build_plan.proofs.LeadsLaws.{one_step, step_then, then_step}
-use Rattle.target_graph.specs.Faults.{IsRepeat}
 use Rattle.target_graph.specs.Workspace.{pairs_of, stem_at, Sees}
 use Rattle.target_graph.specs.Workspace as graph
 use Rattle.target_graph.specs.declared.target.Pair.{Pair}
-use Rattle.target_graph.specs.declared.target.Target.{Target}
 use Rattle.build_rules.specs.World.{World, held_in, HasImports, Means, Imports, IsCyclic}
 use Rattle.build_rules.specs.Locality.{IsApart}
 

@@ -1,5 +1,5 @@
 -- The homes of what a module declares and exports: its own stem, and the homes of what its imports show.
-use Rattle.std.specs.Prelude.{ℕ, Bool, false, if◌then◌else◌, List, [], ◌∷◌, ◌++◌, map, Option, Some, None}
+use Rattle.std.specs.Prelude.{ℕ, Bool, false, List, [], ◌∷◌, ◌++◌, map, Option, Some, None}
 use Rattle.oberon_tree.specs.declared.leaf.Ident.{Ident}
 use Rattle.oberon_tree.specs.declared.leaf.IdentDef.{IdentDef}
 use Rattle.oberon_tree.specs.declared.module.Import.{Import}
@@ -19,7 +19,7 @@ use Rattle.oberon_rules.specs.Views.{put_in, entity_of, put_entity, exported_in}
 use Rattle.oberon_rules.specs.Order.{name_before}
 use Rattle.oberon_rules.specs.Judged.{all_said, has_error, declared_view}
 use Rattle.build_rules.proofs.Homes.{AreHomes, AreParamHomes, AreResultHomes, AreSignatureHomes, AreEntityHomes, AreExportHomes, AreViewHomes}
-use Rattle.build_rules.proofs.ImportNames.{EachImport}
+use Rattle.document_laws.proofs.ImportNames.{EachImport}
 use Rattle.build_rules.proofs.TypeHomes.{pick, AreMeaningHomes, AreEntriesHomes, AreLocalsHomes, AreScopeHomes, AreFoundHomes, type_named_homes, limited_homes, type_homes}
 
 -- what each import of a list shows has such homes

@@ -7,14 +7,14 @@ use Rattle.oberon_tree.specs.Trees.{ModuleTree}
 use Rattle.oberon_types.specs.declared.origin.Origin.{Origin}
 use Rattle.oberon_types.specs.Types.{TyTree, unknown_ty, integer_ty, byte_ty, char_ty, boolean_ty, set_ty, string_ty, array_ty, open_ty, record_ty, RecordTree, record_of, BaseTree, no_base, base_of, FieldsTree, no_fields, more_fields, same_name}
 use Rattle.oberon_types.specs.Sizes.{sees, weight}
-use Rattle.oberon_types.specs.Entities.{ParamTree, SignatureTree, EntityTree, constant_entity, type_entity, variable_entity, procedure_entity, Export, ViewTree, broken_view, exports_view}
+use Rattle.oberon_types.specs.Entities.{ParamTree, EntityTree, constant_entity, type_entity, variable_entity, procedure_entity, Export, ViewTree, broken_view, exports_view}
 use Rattle.oberon_rules.specs.Judged.{all_said, has_error, declared_view}
 use Rattle.oberon_rules.specs.Module.{module_says, whole_scope}
 use Rattle.oberon_rules.specs.Order.{name_before}
 use Rattle.oberon_rules.specs.Scopes.{Meaning, unknown_meaning, constant_meaning, type_meaning, variable_meaning, procedure_meaning, word_meaning, import_meaning, Entry, Scopes, row}
-use Rattle.oberon_rules.specs.Views.{kept, kept_record, kept_base, kept_fields, written, map_param, map_signature, map_entity, map_export, map_view, put_in, entity_of, put_entity, exported_in, weight_of_params, weight_of_result, weight_of_entity, interface_weight, is_interface_too_large}
+use Rattle.oberon_rules.specs.Views.{kept, kept_record, kept_base, kept_fields, written, map_param, map_entity, map_export, map_view, put_in, entity_of, put_entity, exported_in, weight_of_params, weight_of_result, weight_of_entity, interface_weight, is_interface_too_large}
 use Rattle.oberon_rules.proofs.AgreeModule.{map_views, module_says_seen, whole_scope_seen}
-use Rattle.oberon_rules.proofs.AgreeNames.{choose, map_meaning, map_entry, map_scopes}
+use Rattle.oberon_rules.proofs.AgreeNames.{choose, map_meaning, map_entry}
 use Rattle.oberon_rules.proofs.Seen.{seen}
 
 -- ---- what is seen, written out, is what is written out

@@ -1,6 +1,6 @@
 -- The homes of what a module declares are modules that it leads to. So what an import of a module declares, written
 -- out, is what the module sees of it.
-use Rattle.std.proofs.Common.{◌≡◌, ℕ, Bool, true, false, List, [], sym, ap, subst, ◌∙◌, refl}
+use Rattle.std.proofs.Common.{◌≡◌, ℕ, Bool, true, false, List, sym, subst, ◌∙◌, refl}
 use Rattle.std.specs.Prelude.{codes, Contains, if◌then◌else◌}
 use Rattle.std.proofs.lemmas.Slice.Eq.{bytes_eq-Decides}
 use Rattle.oberon_imports.specs.Imports.{imports_in}
@@ -11,11 +11,11 @@ use Rattle.oberon_rules.proofs.Seen.{seen}
 use Rattle.oberon_rules.specs.Views.{out_view, written, map_view}
 use Rattle.target_graph.specs.Workspace.{stem_at}
 use Rattle.build_rules.proofs.Homes.{AreViewHomes, IsElsewhere, more_view, out_homes, out_written, view_elsewhere}
-use Rattle.build_rules.proofs.ImportNames.{each_import}
+use Rattle.document_laws.proofs.ImportNames.{each_import}
 use Rattle.build_rules.proofs.Reached.{Reaches, ImportsName, named_import, reaches_on, back_again, reached_stem}
 use Rattle.build_rules.proofs.ScopeHomes.{declared_homes}
 use Rattle.build_rules.specs.Locality.{IsApart}
-use Rattle.build_rules.specs.Views.{as_view, whole, shown_elsewhere, Shows, cyclic, treeless, declared, IsShown, of_module, of_none, HasState}
+use Rattle.build_rules.specs.Views.{as_view, whole, shown_elsewhere, Shows, cyclic, treeless, declared, IsShown, of_module, of_none}
 use Rattle.build_rules.specs.World.{World, held_in, Parses, IsCyclic, Imports}
 
 -- ---- Out, and what is missing

@@ -1,6 +1,6 @@
 -- Views suffice: by what views show, a module's list and what it shows are what they are by whole declarations.
-use Rattle.std.proofs.Common.{◌≡◌, ◌≤◌, ◌⊎◌, inl, inr, ℕ, Bool, true, false, List, [], ◌∷◌, sym, ap, subst, ◌∙◌, refl}
-use Rattle.std.specs.Prelude.{Contains, ◌↔◌}
+use Rattle.std.proofs.Common.{◌≡◌, inl, inr, ℕ, Bool, true, false, List, [], ◌∷◌, sym, ap, subst, ◌∙◌, refl}
+use Rattle.std.specs.Prelude.{Contains}
 use Rattle.std.specs.List.{list_any}
 use Rattle.std.proofs.lemmas.Bool.{false≢true}
 use Rattle.std.proofs.lemmas.Cmp.{nat_list_eq_equiv}
@@ -18,16 +18,16 @@ use Rattle.oberon_types.specs.Types.{same_name}
 use Rattle.oberon_rules.proofs.AgreeModule.{map_views}
 use Rattle.oberon_rules.proofs.Seen.{seen}
 use Rattle.oberon_rules.specs.Judged.{found, all_said, declared_view}
-use Rattle.oberon_rules.specs.Local.{Local, TextLocal, FaultsLocal, TokensLocal, TreeLocal}
+use Rattle.oberon_rules.specs.Local.{Local, FaultsLocal, TokensLocal}
 use Rattle.oberon_rules.specs.Order.{IsListed}
 use Rattle.oberon_rules.specs.Views.{written, map_view}
 use Rattle.target_graph.specs.Workspace.{stem_at}
-use Rattle.build_rules.proofs.ImportNames.{each_import}
-use Rattle.build_rules.proofs.SameImports.{same_all_said, same_declared}
+use Rattle.document_laws.proofs.ImportNames.{each_import}
+use Rattle.document_laws.proofs.Imported.{same_all_said, same_declared}
 use Rattle.build_rules.proofs.SeenExports.{all_said_seen, declared_seen}
 use Rattle.build_rules.proofs.StateHomes.{elsewhere_view, import_seen, imports_name}
 use Rattle.build_rules.specs.Locality.{IsApart, IsViewOfState, DoViewsSuffice}
-use Rattle.build_rules.specs.Views.{as_view, whole, Shows, cyclic, treeless, declared, IsShown, of_module, of_none, Finds, HasState, HasView, HasList, HasLocalList}
+use Rattle.build_rules.specs.Views.{as_view, whole, Shows, cyclic, treeless, declared, IsShown, of_module, of_none, HasList, HasLocalList}
 use Rattle.build_rules.specs.World.{World, held_in, Parses, Means, IsCyclic}
 
 -- ---- one module
@@ -175,8 +175,8 @@ module _ (w : World) (apart : IsApart w) (p : ℕ) (list : List Diagnostic) wher
   local_list f =
       let views : List ℕ → ViewTree = λ name. as_view (f.imported name) in
       let other = other_views (held_in w p) (stem_at w.targets p) f.imported views list f.imports
-          (λ tree parsed is. sym (said_agree w apart p tree parsed f.imported views (whole_names tree f.imports (λ name. IsShown w whole p name (f.imported name)) is f.shown) (λ name listed. refl)))
-          f.view f.check in
+      (λ tree parsed is. sym (said_agree w apart p tree parsed f.imported views (whole_names tree f.imports (λ name. IsShown w whole p name (f.imported name)) is f.shown) (λ name listed. refl)))
+      f.view f.check in
       record { imported = views; imports = f.imports; view = other.view; check = other.local; shown = λ name listed. shown_view w apart p name (f.imported name) (f.shown name listed) }
 
   pub whole_list : HasLocalList w p list → HasList w p list
@@ -185,10 +185,10 @@ module _ (w : World) (apart : IsApart w) (p : ℕ) (list : List Diagnostic) wher
       let states : List ℕ → ViewTree = chosen w p f.imports f.imported all in
       let are : (name : List ℕ) → Contains f.imports name → IsShown w whole p name (states name) × (f.imported name ≡ as_view (states name)) = is_chosen w p f.imports f.imported all in
       let other = other_views (held_in w p) (stem_at w.targets p) f.imported states list f.imports
-          (λ tree parsed is. said_agree w apart p tree parsed states f.imported
-          (whole_names tree f.imports (λ name. IsShown w whole p name (states name)) is (λ name listed. (are name listed).0))
-          (whole_names tree f.imports (λ name. f.imported name ≡ as_view (states name)) is (λ name listed. (are name listed).1)))
-          f.view f.check in
+      (λ tree parsed is. said_agree w apart p tree parsed states f.imported
+      (whole_names tree f.imports (λ name. IsShown w whole p name (states name)) is (λ name listed. (are name listed).0))
+      (whole_names tree f.imports (λ name. f.imported name ≡ as_view (states name)) is (λ name listed. (are name listed).1)))
+      f.view f.check in
       record { imported = states; imports = f.imports; view = other.view; check = other.local; shown = λ name listed. (are name listed).0 }
 
 pub suffice : (w : World) → IsApart w → DoViewsSuffice w

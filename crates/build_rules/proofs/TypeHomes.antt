@@ -1,5 +1,5 @@
 -- The homes of what names mean and of types at a place: the module's own, and those of what its names mean.
-use Rattle.std.specs.Prelude.{ℕ, Bool, true, false, if◌then◌else◌, List, [], ◌∷◌, ◌++◌, is_some, Option, Some, None}
+use Rattle.std.specs.Prelude.{ℕ, Bool, true, false, if◌then◌else◌, List, [], ◌∷◌, is_some, Option, Some, None}
 use Rattle.oberon_tree.specs.declared.leaf.Ident.{Ident}
 use Rattle.oberon_tree.specs.declared.leaf.IdentDef.{IdentDef}
 use Rattle.oberon_tree.specs.declared.leaf.Member.{Member}

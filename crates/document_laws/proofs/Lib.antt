@@ -1,2 +1,3 @@
+pub mod ImportNames
 pub mod Imported
 pub mod OneDocument

@@ -1,4 +1,3 @@
-use Rattle.build_rules.proofs.LocalViews.{checked_view}
 use Rattle.build_rules.proofs.Suffice.{suffice}
 use Rattle.build_rules.proofs.laws.views_suffice.Goals as goal
 

@@ -1,5 +1,5 @@
 -- The names that a module imports are those of its list of imports.
-use Rattle.std.proofs.Common.{◌≡◌, ◌==◌, ◌⊎◌, inl, inr, ℕ, zero, suc, ◌<◌, Bool, true, false, cond, List, [], ◌∷◌, ◌++◌, length, fold, Option, Some, None, map, Contains, sym, ap, subst, ◌∙◌, refl, arith}
+use Rattle.std.proofs.Common.{◌≡◌, ◌==◌, ℕ, Bool, true, false, cond, List, [], ◌∷◌, ◌++◌, fold, Option, Some, None, map, Contains, subst, refl}
 use Rattle.std.specs.List.{list_any}
 use Rattle.std.specs.Cmp.Lexicographic.{pointwise}
 use Rattle.std.proofs.lemmas.List.Elements.{Contains-append_left, Contains-push}
@@ -52,17 +52,19 @@ module _ (Q : List ℕ → Type 0) where
   rest_each : (ns : List NextImport) (xs : List (List ℕ)) → ((x : List ℕ) → Contains (fold (once_more (pointwise ◌==◌)) xs (map (λ (n : NextImport). imported_name n.import) ns)) x → Q x)
       → EachImport Q (map (λ (n : NextImport). n.import) ns)
   rest_each [] xs all = tt
-  rest_each (n ∷ ns) xs all =
-      (subst Q (same_import n.import)
-      (all (imported_name n.import) (fold_keeps (map (λ (m : NextImport). imported_name m.import) ns) (once_more (pointwise ◌==◌) xs (imported_name n.import)) (imported_name n.import) (once_holds xs (imported_name n.import)))),
-      rest_each ns (once_more (pointwise ◌==◌) xs (imported_name n.import)) all)
+  rest_each (n ∷ ns) xs all = (
+    subst Q (same_import n.import)
+        (all (imported_name n.import) (fold_keeps (map (λ (m : NextImport). imported_name m.import) ns) (once_more (pointwise ◌==◌) xs (imported_name n.import)) (imported_name n.import) (once_holds xs (imported_name n.import)))),
+    rest_each ns (once_more (pointwise ◌==◌) xs (imported_name n.import)) all,
+  )
 
   list_each : (is : Option ImportsTree) → ((x : List ℕ) → Contains (each_once (pointwise ◌==◌) (names_in is)) x → Q x) → EachImport Q (import_list is)
   list_each None all = tt
-  list_each (Some x) all =
-      (subst Q (same_import x.first)
-      (all (imported_name x.first) (fold_keeps (map (λ (n : NextImport). imported_name n.import) x.rest) (once_more (pointwise ◌==◌) [] (imported_name x.first)) (imported_name x.first) (once_holds [] (imported_name x.first)))),
-      rest_each x.rest (once_more (pointwise ◌==◌) [] (imported_name x.first)) all)
+  list_each (Some x) all = (
+    subst Q (same_import x.first)
+        (all (imported_name x.first) (fold_keeps (map (λ (n : NextImport). imported_name n.import) x.rest) (once_more (pointwise ◌==◌) [] (imported_name x.first)) (imported_name x.first) (once_holds [] (imported_name x.first)))),
+    rest_each x.rest (once_more (pointwise ◌==◌) [] (imported_name x.first)) all,
+  )
 
   pub each_import : (m : ModuleTree) → ((x : List ℕ) → Contains (imports_in m) x → Q x) → EachImport Q (import_list m.imports)
   each_import m all = list_each m.imports all
