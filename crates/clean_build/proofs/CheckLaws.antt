@@ -5,13 +5,16 @@ use Rattle.std.specs.List.{slice_get}
 use Rattle.ob_text.specs.declared.diagnostic.Diagnostic.{Diagnostic}
 use Rattle.oberon_types.specs.declared.entity.View.{View}
 use Rattle.oberon_types.specs.Entities.{ViewTree}
-use Rattle.build_rules.specs.Views.{AreViews, HasList, HasView, IsCheck}
+use Rattle.build_rules.proofs.LocalViews as local
+use Rattle.build_rules.proofs.Suffice.{whole_list}
+use Rattle.build_rules.specs.Locality.{IsApart}
+use Rattle.build_rules.specs.Views.{as_view, HasList, HasView, IsCheck, IsShown}
 use Rattle.build_rules.specs.World.{World, held_in, Imports, IsCyclic}
 use Rattle.target_graph.specs.Workspace.{pairs_of}
 use Rattle.target_graph.specs.declared.target.Pair.{Pair}
 use Rattle.clean_build.proofs.ImportLaws.{named_import, seen_by}
 use Rattle.clean_build.specs.Documents.{IsDocument}
-use Rattle.clean_build.specs.Known.{AreViewsOf, view_at}
+use Rattle.clean_build.specs.Known.{AreViewsOf, IsViewOf, of_module, of_none, view_at}
 use Rattle.clean_build.specs.declared.documents.Document.{Document}
 
 -- what two facts of an outcome come to
@@ -23,20 +26,22 @@ module _ (w : World) (p : ℕ) (pair : Pair) (there : slice_get (pairs_of w.targ
     (d : Document) (document : IsDocument (held_in w p) d)
     (kept : List View) (seen : (q : ℕ) → Imports w p q → HasView w q (view_at kept q))
     (views : List ℕ → ViewTree) (given : AreViewsOf w.targets pair.target kept d.imports.items views) where
-  views_are : AreViews w p d.imports.items views
-  views_are = record {
-    known = λ name listed q means.
-        let visible = seen_by w p pair there name q means in
-        subst (HasView w q) (sym ((given name listed).known q visible)) (seen q (named_import w p pair there d document name listed q visible));
-    elsewhere = λ name listed none. (given name listed).elsewhere (λ q visible. none q (record { pair = pair; there = there; visible = visible }));
-  }
+  shown : (name : List ℕ) → Contains d.imports.items name → IsShown w as_view p name (views name)
+  shown name listed = by (given name listed)
+    where
+      by : IsViewOf w.targets pair.target kept name (views name) → IsShown w as_view p name (views name)
+      by (of_module q visible is) =
+          IsShown.of_module q (record { pair = pair; there = there; visible = visible })
+          (subst (HasView w q) (sym is) (seen q (named_import w p pair there d document name listed q visible)))
+      by (of_none none is) = IsShown.of_none (λ q means. none q (seen_by w p pair there name q means)) is
 
   module _ (list : List Diagnostic) (imports : List (List ℕ)) (view : ViewTree) (check : IsCheck w p views list imports view) (same : imports ≡ d.imports.items) where
-    are : AreViews w p imports views
-    are = subst (λ (ns : List (List ℕ)). AreViews w p ns views) (sym same) views_are
+    all_shown : (name : List ℕ) → Contains imports name → IsShown w as_view p name (views name)
+    all_shown = subst (λ (ns : List (List ℕ)). (name : List ℕ) → Contains ns name → IsShown w as_view p name (views name)) (sym same) shown
 
-    pub checked_list : HasList w p list
-    checked_list = record { views = views; imports = imports; view = view; check = check; are = are }
+    -- the views suffice, so the list is that of the whole declarations
+    pub checked_list : IsApart w → HasList w p list
+    checked_list apart = whole_list w apart p list (record { imported = views; imports = imports; view = view; check = check; shown = all_shown })
 
     pub checked_view : ¬ (IsCyclic w p) → HasView w p view
-    checked_view acyclic = HasView.checked views list imports acyclic check are.known are.elsewhere
+    checked_view acyclic = local.checked_view w p views list imports view acyclic all_shown check

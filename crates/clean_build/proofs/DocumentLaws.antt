@@ -24,13 +24,8 @@ use Rattle.clean_build.specs.declared.documents.Document.{Document}
 
 tree_imports : (held : Held) (tree : ModuleTree) → HasTree held tree → HasImports held (imports_in tree)
 tree_imports held tree has = record {
-  text = has.has_tokens.text;
-  is = has.has_tokens.is;
-  tokens = has.tokens;
-  lexis = has.has_tokens.lexis;
   tree = tree;
-  printed = has.printed;
-  levels = has.levels;
+  parsed = record { text = has.has_tokens.text; is = has.has_tokens.is; tokens = has.tokens; lexis = has.has_tokens.lexis; printed = has.printed; levels = has.levels };
   imported = refl;
 }
 
@@ -40,18 +35,18 @@ abbrev no_views : List ℕ → ViewTree
 no_views name = missing_view
 
 module _ (list : List Diagnostic) (names : List (List ℕ)) (held : Held) (has : HasImports held names) where
-  by_tokens : TokensLocal has.text has.tokens [] no_views list [] broken_view → names ≡ []
-  by_tokens (inl found) = has.imported ∙ one_import_list has.tree found.tree (has.printed ∙ sym found.printed) ∙ sym found.imported
-  by_tokens (inr found) = absurd (none_bad most_levels has.tokens found.0.index (has.tree, has.printed, has.levels) found.0.first)
+  by_tokens : TokensLocal has.parsed.text has.parsed.tokens [] no_views list [] broken_view → names ≡ []
+  by_tokens (inl found) = has.imported ∙ one_import_list has.tree found.tree (has.parsed.printed ∙ sym found.printed) ∙ sym found.imported
+  by_tokens (inr found) = absurd (none_bad most_levels has.parsed.tokens found.0.index (has.tree, has.parsed.printed, has.parsed.levels) found.0.first)
 
-  by_text : TextLocal has.text [] no_views list [] broken_view → names ≡ []
+  by_text : TextLocal has.parsed.text [] no_views list [] broken_view → names ≡ []
   by_text found =
-      let cut = one_cut found.lexis has.lexis in
-      by_tokens (subst (λ ts. TokensLocal has.text ts [] no_views list [] broken_view) cut.0
-      (subst (λ (faults : List Diagnostic). FaultsLocal has.text found.tokens faults [] no_views list [] broken_view) cut.1 found.told))
+      let cut = one_cut found.lexis has.parsed.lexis in
+      by_tokens (subst (λ ts. TokensLocal has.parsed.text ts [] no_views list [] broken_view) cut.0
+      (subst (λ (faults : List Diagnostic). FaultsLocal has.parsed.text found.tokens faults [] no_views list [] broken_view) cut.1 found.told))
 
   pub no_imports : HasNoTree held list → names ≡ []
-  no_imports none = by_text (subst (λ (h : Held). Local h [] no_views list [] broken_view) has.is (none [] no_views))
+  no_imports none = by_text (subst (λ (h : Held). Local h [] no_views list [] broken_view) has.parsed.is (none [] no_views))
 
 -- ---- either
 

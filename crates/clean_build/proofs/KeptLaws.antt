@@ -14,7 +14,7 @@ use Rattle.ob_text.specs.declared.diagnostic.Diagnostic.{Diagnostic}
 use Rattle.oberon_types.specs.declared.entity.View.{View}
 use Rattle.oberon_types.specs.Entities.{ViewTree, cyclic_view, missing_view}
 use Rattle.oberon_types.specs.Memory.{plain_view}
-use Rattle.build_rules.specs.Views.{HasList, HasView}
+use Rattle.build_rules.specs.Views.{HasList, HasView, Shows}
 use Rattle.build_rules.specs.World.{World, IsCyclic}
 use Rattle.target_graph.specs.Workspace.{pairs_of}
 use Rattle.clean_build.proofs.BuildLaws.{one_on}
@@ -59,7 +59,7 @@ module _ (w : World) (modules : List ℕ) (rows : List (List ℕ)) (are : AreRow
     where
       seen_at : (p : ℕ) → Contains [] p ⊎ OnCycle rows p → HasView w p (view_at kept p)
       seen_at p (inl c) = absurd (nothing p c)
-      seen_at p (inr on) = subst (HasView w p) (sym (cyclic p on)) (HasView.cyclic ((cyclic_rows w rows are p).0 on))
+      seen_at p (inr on) = subst (HasView w p) (sym (cyclic p on)) (Shows.cyclic ((cyclic_rows w rows are p).0 on))
 
 -- ---- as a check is kept
 

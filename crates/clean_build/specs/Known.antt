@@ -6,16 +6,16 @@ use Rattle.oberon_types.specs.Entities.{ViewTree, missing_view}
 use Rattle.oberon_types.specs.Memory.{plain_view}
 use Rattle.target_graph.specs.Workspace.{IsVisible}
 use Rattle.target_graph.specs.declared.target.Target.{Target}
-use Rattle.build_rules.specs.Views.{view_elsewhere}
+use Rattle.build_rules.specs.Views.{shown_elsewhere}
 
 -- the view that is kept of a module
 abbrev pub view_at : List View → ℕ → ViewTree
 view_at kept q = slice_index_or (map plain_view kept) q missing_view
 
--- the view of what a name means to a target
-pub record IsViewOf (targets : List Target) (target : ℕ) (kept : List View) (name : List ℕ) (view : ViewTree) : Type 0 where
-  pub known : (q : ℕ) → IsVisible targets target name q → view ≡ view_at kept q
-  pub elsewhere : ((q : ℕ) → ¬ (IsVisible targets target name q)) → view ≡ view_elsewhere name
+-- the view of what a name means to a target: the one that is kept of a module, or that of a name which means none
+pub data IsViewOf (targets : List Target) (target : ℕ) (kept : List View) (name : List ℕ) (view : ViewTree) : Type 0 where
+  of_module : (q : ℕ) → IsVisible targets target name q → view ≡ view_at kept q → IsViewOf targets target kept name view
+  of_none : ((q : ℕ) → ¬ (IsVisible targets target name q)) → view ≡ shown_elsewhere name → IsViewOf targets target kept name view
 
 abbrev pub AreViewsOf : List Target → ℕ → List View → List (List ℕ) → (List ℕ → ViewTree) → Type 0
 AreViewsOf targets target kept names views = (name : List ℕ) → Contains names name → IsViewOf targets target kept name (views name)

@@ -5,7 +5,8 @@ use indexmap::IndexMap;
 use std::alloc::Global;
 use std::test::Fail;
 
-const BEFORE: &str = "MODULE A; CONST K* = 2; L* = 3; TYPE T* = RECORD x*: INTEGER; y: CHAR END; VAR v*: T; h: INTEGER; PROCEDURE P*(VAR a: INTEGER; b: T): INTEGER; BEGIN a := 1 RETURN 0 END P; END A.";
+const BEFORE: &str =
+    "MODULE A; CONST K* = 2; L* = 3; TYPE T* = RECORD x*: INTEGER; y: CHAR END; VAR v*: T; h: INTEGER; PROCEDURE P*(VAR a: INTEGER; b: T): INTEGER; BEGIN a := 1 RETURN 0 END P; END A.";
 
 const SAME: [&str; 7] = [
     // a body

@@ -58,7 +58,7 @@ returns-clause-list c =
     let d = c.of-document.result.now in
     ok_both c.check_read.result c.check_read.ensures.local c.check_read.ensures.imports
     (λ f found same. checked_list w c.args.index c.index-pairs-index.result (there c) d (document c) c.args.kept.now c.requires.known views (given c)
-    f.list.items f.imports.items (plain_view f.view) (check_is c f found) (same ∙ sym (document c).imported))
+    f.list.items f.imports.items (plain_view f.view) (check_is c f found) (same ∙ sym (document c).imported) c.pairs.ensures.once)
 
 pub returns-clause-view : goal.returns-clause-view
 returns-clause-view c =
