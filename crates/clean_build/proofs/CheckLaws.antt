@@ -1,5 +1,5 @@
 -- The check of a module by the views of its imports gives the list and the view of the clean build.
-use Rattle.std.proofs.Common.{◌≡◌, ℕ, List, sym, subst}
+use Rattle.std.proofs.Common.{Contains, ◌≡◌, ℕ, List, sym, subst}
 use Rattle.std.specs.Prelude.{Some, Result, Ok, Err, IfOk}
 use Rattle.std.specs.List.{slice_get}
 use Rattle.ob_text.specs.declared.diagnostic.Diagnostic.{Diagnostic}
