@@ -90,11 +90,7 @@ fn read_open(alloc: Global, text: &[u8], depth: u32) -> Result<(Ty, &[u8]), Faul
 
 #[cycle(read)]
 #[inline(never)]
-fn read_record(
-    alloc: Global,
-    text: &[u8],
-    depth: u32,
-) -> Result<(Arc<RecordTy>, &[u8]), Fault>
+fn read_record(alloc: Global, text: &[u8], depth: u32) -> Result<(Arc<RecordTy>, &[u8]), Fault>
     ensures { Reads record_at record_then (IsRecordIn depth) text.now result }
 {
     if depth == 0 {

@@ -1,8 +1,8 @@
-use Rattle.std.proofs.Common.{refl, ◌∷◌, ◌≡◌, ◌<◌, ◌∙◌, ap, sym, subst, map, List, ℕ, Some, arith}
+use Rattle.std.proofs.Common.{refl, ◌∷◌, ◌∙◌, ap, sym, subst, map, List, ℕ, arith}
 use Rattle.std.specs.Option.{option_map}
 use Rattle.oberon_types.specs.Memory.{plain_ty}
 use Rattle.iface_key.specs.Keys.{option_then, type_then, fields_then}
-use Rattle.iface_key.specs.Read.{Reads, so_far}
+use Rattle.iface_key.specs.Read.{Reads}
 use Rattle.iface_key.specs.ReadTypes.{IsNestedIn, IsNextIn, plain_field, field_then}
 use Rattle.iface_key.proofs.Listed.{exits, none_next, so_far_step, so_far_last, map_more}
 use Rattle.iface_key.proofs.Longer.{item_smaller, field_longer}
