@@ -1,13 +1,11 @@
 -- What stands in front of a rest makes it no shorter, so that reading comes to an end.
-use Rattle.std.specs.Prelude.{ℕ, ◌<◌, ◌≤◌, ◌≡◌, nat_lt, if◌then◌else◌, Bool, true, false, List, [], ◌∷◌, length, Option, Some, None, ℤ, pos, negsuc}
+use Rattle.std.specs.Prelude.{ℕ, ◌<◌, ◌≤◌, ◌≡◌, nat_lt, if◌then◌else◌, Bool, true, false, List, [], ◌∷◌, length, Option, Some, None, pos, negsuc}
 use Rattle.std.proofs.Common.{ap, arith}
-use Rattle.oberon_types.specs.declared.origin.Step.{Step}
 use Rattle.oberon_types.specs.declared.origin.Step.TheVariants as steps
-use Rattle.oberon_types.specs.declared.value.Value.{Value}
 use Rattle.oberon_types.specs.declared.value.Value.TheVariants as values
-use Rattle.oberon_types.specs.Types.{TyTree, unknown_ty, integer_ty, byte_ty, char_ty, boolean_ty, set_ty, string_ty, array_ty, open_ty, record_ty, RecordTree, record_of, BaseTree, no_base, base_of, FieldsTree, no_fields, more_fields}
-use Rattle.oberon_types.specs.Entities.{ParamTree, EntityTree, constant_entity, type_entity, variable_entity, procedure_entity, Export}
-use Rattle.iface_key.specs.Keys.{number_then, bool_then, integer_then, text_then, list_then, option_then, value_then, step_then, origin_then, type_then, record_then, base_then, fields_then, param_then, signature_then, entity_then, export_then}
+use Rattle.oberon_types.specs.Types.{string_ty, array_ty, open_ty, record_ty, record_of, no_base, base_of, no_fields, more_fields}
+use Rattle.oberon_types.specs.Entities.{constant_entity, type_entity, variable_entity, procedure_entity}
+use Rattle.iface_key.specs.Keys.{number_then, bool_then, integer_then, text_then, list_then, option_then, value_then, step_then, origin_then, type_then, record_then, base_then, fields_then, param_then, entity_then, export_then}
 use Rattle.iface_key.specs.ReadTypes.{field_then}
 
 abbrev pub Longer : {A : Type 0} → (A → List ℕ → List ℕ) → Type 0

@@ -1,14 +1,11 @@
 -- Constants and origins that are read.
-use Rattle.std.specs.Prelude.{ℕ, ◌≡◌, ◌≢◌, ◌<◌, Bool, true, false, List, [], ◌∷◌, Option, Some, None, refl}
+use Rattle.std.specs.Prelude.{ℕ, ◌≡◌, ◌<◌, Bool, true, false, List, [], ◌∷◌, Option, Some, None, refl}
 use Rattle.std.proofs.Common.{ap, sym, ◌∙◌, arith}
-use Rattle.oberon_types.specs.declared.origin.Origin.{Origin}
-use Rattle.oberon_types.specs.declared.origin.Step.{Step}
 use Rattle.oberon_types.specs.declared.origin.Step.TheVariants as steps
-use Rattle.oberon_types.specs.declared.value.Value.{Value}
 use Rattle.oberon_types.specs.declared.value.Value.TheVariants as values
 use Rattle.iface_key.specs.Keys.{number_then, bool_then, integer_then, text_then, list_then, option_then, value_then, step_then, origin_then}
 use Rattle.iface_key.specs.Read.{BeginsWithNone, Any}
-use Rattle.iface_key.proofs.OneWay.{OneWay, text_one, option_one, procedure_one, path_one, step_one}
+use Rattle.iface_key.proofs.OneWay.{OneWay, text_one, option_one, procedure_one, step_one}
 use Rattle.iface_key.proofs.Listed.{Listing}
 
 -- ---- what may be lacking

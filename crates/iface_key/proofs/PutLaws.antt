@@ -1,5 +1,5 @@
 -- Parts that are printed behind one another.
-use Rattle.std.specs.Prelude.{ℕ, zero, suc, ◌+◌, ◌<◌, ◌≤◌, ◌≡◌, ◌++◌, List, [], ◌∷◌, Option, Some, None, Result, Ok, Err, OnOk, map, length, drop, slice_get, refl}
+use Rattle.std.specs.Prelude.{ℕ, zero, suc, ◌+◌, ◌<◌, ◌≤◌, ◌≡◌, ◌++◌, List, [], ◌∷◌, Result, Ok, Err, OnOk, map, length, drop, slice_get, refl}
 use Rattle.std.proofs.Common.{ap, sym, ◌∙◌, arith, add-one}
 use Rattle.std.proofs.lemmas.List.{drop_all}
 use Rattle.oberon_types.specs.declared.ty.Field.{Field}

@@ -1,9 +1,9 @@
 -- Numbers and texts that are read.
-use Rattle.std.specs.Prelude.{ℕ, zero, suc, ◌+◌, ◌*◌, ◌/◌, ◌%◌, ◌<◌, ◌≤◌, ◌≡◌, ◌==◌, nat_lt, if◌then◌else◌, Bool, true, false, List, [], ◌∷◌, length, Option, Some, None, ℤ, pos, negsuc, refl}
+use Rattle.std.specs.Prelude.{ℕ, zero, suc, ◌+◌, ◌*◌, ◌/◌, ◌%◌, ◌<◌, ◌≤◌, ◌≡◌, ◌==◌, nat_lt, if◌then◌else◌, Bool, true, false, List, [], ◌∷◌, length, Option, Some, None, pos, negsuc, refl}
 use Rattle.std.proofs.Common.{ap, sym, ◌∙◌, arith}
-use Rattle.std.proofs.lemmas.Bool.{ltb-true, ltb-false, lt-ltb}
+use Rattle.std.proofs.lemmas.Bool.{ltb-true, ltb-false}
 use Rattle.iface_key.specs.Keys.{number_then, bool_then, integer_then, text_then}
-use Rattle.iface_key.specs.Read.{BeginsWithNone, Any, letter_then, so_far}
+use Rattle.iface_key.specs.Read.{BeginsWithNone, Any, letter_then}
 use Rattle.iface_key.proofs.OneWay.{OneWay, more_one, not_end}
 use Rattle.iface_key.proofs.Listed.{Listing}
 

@@ -1,5 +1,5 @@
 -- Types that are read.
-use Rattle.std.specs.Prelude.{ℕ, ◌+◌, ◌-◌, ◌<◌, ◌≤◌, ◌≡◌, ◌++◌, ◌≢◌, max, Bool, true, false, List, [], ◌∷◌, Option, Some, None, map, refl}
+use Rattle.std.specs.Prelude.{ℕ, ◌-◌, ◌<◌, ◌≤◌, ◌≡◌, ◌++◌, Bool, true, false, List, [], ◌∷◌, Option, Some, map, refl}
 use Rattle.std.proofs.Common.{ap, sym, ◌∙◌, subst, arith}
 use Rattle.std.specs.declared.alloc.Global.{Global}
 use Rattle.std.specs.declared.sync.Arc.{Arc}
@@ -7,12 +7,12 @@ use Rattle.std.specs.declared.vec.Vec.{Vec}
 use Rattle.oberon_types.specs.declared.origin.Origin.{Origin}
 use Rattle.oberon_types.specs.declared.ty.Field.{Field}
 use Rattle.oberon_types.specs.declared.ty.RecordTy.{RecordTy, roll-RecordTy}
-use Rattle.oberon_types.specs.Types.{TyTree, unknown_ty, integer_ty, byte_ty, char_ty, boolean_ty, set_ty, string_ty, array_ty, open_ty, record_ty, RecordTree, record_of, BaseTree, no_base, base_of, FieldsTree, no_fields, more_fields}
+use Rattle.oberon_types.specs.Types.{TyTree, unknown_ty, integer_ty, byte_ty, char_ty, boolean_ty, set_ty, string_ty, array_ty, open_ty, record_ty, record_of, BaseTree, no_base, base_of, FieldsTree, no_fields, more_fields}
 use Rattle.oberon_types.specs.Memory.{plain_ty, plain_record, base_option, fields_list}
 use Rattle.oberon_types.proofs.TypeMemory.{record_made}
-use Rattle.iface_key.specs.Keys.{number_then, bool_then, text_then, list_then, option_then, origin_then, type_then, record_then, base_then, fields_then}
-use Rattle.iface_key.specs.Views.{nesting, nesting_of_record, nesting_of_base, nesting_of_fields}
-use Rattle.iface_key.specs.Read.{BeginsWithNone, Any, so_far}
+use Rattle.iface_key.specs.Keys.{number_then, bool_then, text_then, option_then, origin_then, type_then, record_then, base_then, fields_then}
+use Rattle.iface_key.specs.Views.{nesting_of_fields}
+use Rattle.iface_key.specs.Read.{BeginsWithNone, Any}
 use Rattle.iface_key.specs.ReadTypes.{FieldTree, plain_field, field_then, IsNestedIn, IsRecordIn, IsBaseIn, IsFieldIn, IsNextIn, AreFieldsIn}
 use Rattle.iface_key.proofs.OneWay.{OneWay, number_one, bool_one, text_one, option_one, origin_one, type_one, base_one, fields_one}
 use Rattle.iface_key.proofs.Listed.{Listing}

@@ -1,19 +1,18 @@
 -- What is exported, as it is read.
-use Rattle.std.specs.Prelude.{ℕ, ◌<◌, ◌≡◌, ◌≢◌, ◌==◌, ◌++◌, Bool, true, false, cond, List, [], ◌∷◌, Option, Some, None, Result, Ok, Err, IfOk, MatchOption, MatchResult, map, length, is_some, suc, refl}
+use Rattle.std.specs.Prelude.{ℕ, ◌<◌, ◌≡◌, ◌≢◌, ◌==◌, ◌++◌, Bool, true, false, cond, List, [], ◌∷◌, Option, Some, None, MatchOption, map, is_some, suc, refl}
 use Rattle.std.proofs.Common.{ap, sym, ◌∙◌, subst, arith}
 use Rattle.std.specs.Cmp.Lexicographic.{pointwise, same_text, other_text}
 use Rattle.std.specs.List.{All, AllByRecursion, IsDistinct}
 use Rattle.std.specs.Map.{lookup}
 use Rattle.oberon_types.specs.declared.entity.Entity.{Entity}
 use Rattle.oberon_types.specs.declared.entity.View.{View}
-use Rattle.oberon_types.specs.Entities.{ParamTree, SignatureTree, EntityTree, constant_entity, type_entity, variable_entity, procedure_entity, Export, ViewTree, missing_view, broken_view, cyclic_view, exports_view}
-use Rattle.oberon_types.specs.Types.{TyTree}
+use Rattle.oberon_types.specs.Entities.{ParamTree, EntityTree, constant_entity, type_entity, variable_entity, procedure_entity, Export, ViewTree, missing_view, broken_view, cyclic_view, exports_view}
 use Rattle.oberon_types.specs.Memory.{plain_export, plain_view}
 use Rattle.iface_key.specs.Keys.{bool_then, text_then, list_then, option_then, value_then, type_then, param_then, signature_then, entity_then, export_then, view_then, KeyOf}
 use Rattle.iface_key.specs.Views.{IsType, IsParam, AreParams, IsResult, IsSignature, IsEntity, IsExport, export_names, AreExports, IsView}
 use Rattle.iface_key.specs.Read.{BeginsWithNone, Any, so_far}
 use Rattle.iface_key.specs.ReadViews.{IsNextParam, IsNextExport}
-use Rattle.iface_key.proofs.OneWay.{bool_one, text_one, list_one, option_one, param_one, export_one, view_one}
+use Rattle.iface_key.proofs.OneWay.{bool_one, text_one, list_one, param_one, export_one, view_one}
 use Rattle.iface_key.proofs.Listed.{Listing, rest_of}
 use Rattle.iface_key.proofs.PartLaws.{option_listing, no_option_item}
 

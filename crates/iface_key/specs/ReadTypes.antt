@@ -8,7 +8,7 @@ use Rattle.oberon_types.specs.declared.ty.Field.{Field}
 use Rattle.oberon_types.specs.declared.ty.RecordTy.{RecordTy}
 use Rattle.oberon_types.specs.Types.{TyTree, RecordTree, BaseTree, FieldsTree}
 use Rattle.oberon_types.specs.Memory.{plain_ty, plain_record, fields_list}
-use Rattle.iface_key.specs.Keys.{text_then, bool_then, type_then, option_then}
+use Rattle.iface_key.specs.Keys.{text_then, bool_then, type_then}
 use Rattle.iface_key.specs.Views.{nesting, nesting_of_record, nesting_of_base, nesting_of_fields}
 
 abbrev pub steps_of : Vec Step Global → List Step

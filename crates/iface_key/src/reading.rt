@@ -35,6 +35,7 @@ fn number_of(a: u8, b: u8, c: u8, d: u8) -> u32
     u32::from(a) + 256 * higher
 }
 
+#[inline(never)]
 pub(crate) fn read_number(text: &[u8]) -> Result<(u32, &[u8]), Fault>
     ensures { Reads same number_then Any text.now result }
 {

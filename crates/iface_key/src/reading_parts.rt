@@ -8,6 +8,7 @@ use ob_text::{Items, Name, Text};
 use oberon_types::{Origin, Step, Value};
 use std::alloc::Global;
 
+#[inline(never)]
 pub(crate) fn read_name(alloc: Global, text: &[u8]) -> Result<(Name, &[u8]), Fault>
     ensures { Reads same text_then Any text.now result }
 {
@@ -90,6 +91,7 @@ fn read_procedure(alloc: Global, text: &[u8]) -> Result<(Option<Name>, &[u8]), F
     Ok((None, behind_mark))
 }
 
+#[inline(never)]
 pub(crate) fn read_origin(alloc: Global, text: &[u8]) -> Result<(Origin, &[u8]), Fault>
     ensures { Reads same origin_then Any text.now result }
 {

@@ -53,15 +53,10 @@ fn read_larger(alloc: Global, tag: u8, text: &[u8], depth: u32) -> Result<(Ty, &
         return Err(Fault::NoKey);
     }
     if tag == 7 {
-        let (length, behind_length) = read_number(text)?;
-        let (item, behind) = read_type(alloc, behind_length, depth - 1)?;
-        let element = Arc::new(alloc, item)?;
-        return Ok((Ty::Array { length, element }, behind));
+        return read_array(alloc, text, depth);
     }
     if tag == 8 {
-        let (part, behind) = read_type(alloc, text, depth - 1)?;
-        let element = Arc::new(alloc, part)?;
-        return Ok((Ty::Open { element }, behind));
+        return read_open(alloc, text, depth);
     }
     if tag == 9 {
         let (given, behind) = read_record(alloc, text, depth)?;
@@ -71,11 +66,31 @@ fn read_larger(alloc: Global, tag: u8, text: &[u8], depth: u32) -> Result<(Ty, &
 }
 
 #[cycle(read)]
-fn read_record(
-    alloc: Global,
-    text: &[u8],
-    depth: u32,
-) -> Result<(Arc<RecordTy>, &[u8]), Fault>
+#[inline(never)]
+fn read_array(alloc: Global, text: &[u8], depth: u32) -> Result<(Ty, &[u8]), Fault>
+    requires { 0 < depth }
+    ensures { Reads plain_ty type_then (IsNestedIn depth) (7 ∷ text.now) result }
+{
+    let (length, behind_length) = read_number(text)?;
+    let (item, behind) = read_type(alloc, behind_length, depth - 1)?;
+    let element = Arc::new(alloc, item)?;
+    Ok((Ty::Array { length, element }, behind))
+}
+
+#[cycle(read)]
+#[inline(never)]
+fn read_open(alloc: Global, text: &[u8], depth: u32) -> Result<(Ty, &[u8]), Fault>
+    requires { 0 < depth }
+    ensures { Reads plain_ty type_then (IsNestedIn depth) (8 ∷ text.now) result }
+{
+    let (part, behind) = read_type(alloc, text, depth - 1)?;
+    let element = Arc::new(alloc, part)?;
+    Ok((Ty::Open { element }, behind))
+}
+
+#[cycle(read)]
+#[inline(never)]
+fn read_record(alloc: Global, text: &[u8], depth: u32) -> Result<(Arc<RecordTy>, &[u8]), Fault>
     ensures { Reads record_at record_then (IsRecordIn depth) text.now result }
 {
     if depth == 0 {
@@ -112,6 +127,7 @@ fn read_base(
 }
 
 #[cycle(read)]
+#[inline(never)]
 fn next_field(alloc: Global, text: &[u8], depth: u32) -> Result<(Option<Field>, &[u8]), Fault>
     ensures { Reads (option_map plain_field) (option_then field_then) (IsNextIn depth) text.now result }
 {

@@ -84,7 +84,13 @@ fn types_by_hand(rt: HostRuntime) -> Result<(), Fail> {
         element,
     };
     let variable = one_entity(alloc, Entity::Variable(array))?;
-    assert!(rt; is_key(alloc, &variable, &[3, 1, 97, 0, 2, 7, 2, 1, 0, 0, 6, 1, 0, 0, 0, 0])?);
+    assert!(rt;
+        is_key(
+            alloc,
+            &variable,
+            &[3, 1, 97, 0, 2, 7, 2, 1, 0, 0, 6, 1, 0, 0, 0, 0]
+        )?
+    );
     let letter = one_entity(alloc, Entity::Constant(Value::Char(200)))?;
     assert!(rt; is_key(alloc, &letter, &[3, 1, 97, 0, 0, 1, 200, 0])?);
     let truth = one_entity(alloc, Entity::Constant(Value::Boolean(true)))?;

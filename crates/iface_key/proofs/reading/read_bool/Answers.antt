@@ -1,4 +1,4 @@
-use Rattle.std.proofs.Common.{◌∙◌, arith}
+use Rattle.std.proofs.Common.{◌∙◌}
 use Rattle.iface_key.proofs.Listed.{exits}
 use Rattle.iface_key.proofs.ReadLaws.{no_bool, no_bool_above, bool_read}
 use Rattle.iface_key.proofs.reading.read_bool.Goals as goal

@@ -1,4 +1,3 @@
-use Rattle.std.proofs.Common.{◌∙◌}
 use Rattle.iface_key.proofs.Listed.{exits}
 use Rattle.iface_key.proofs.ReadLaws.{no_integer}
 use Rattle.iface_key.proofs.reading.read_integer.Goals as goal

@@ -1,6 +1,4 @@
-use Rattle.std.proofs.Common.{sym, ◌∙◌, ap}
 use Rattle.iface_key.proofs.Listed.{exits}
-use Rattle.iface_key.specs.Keys.{text_then, option_then, list_then, step_then}
 use Rattle.iface_key.proofs.PartLaws.{no_origin_home, no_origin_procedure, no_origin_name, no_origin_path}
 use Rattle.iface_key.proofs.reading_parts.read_origin.Goals as goal
 

@@ -1,8 +1,8 @@
-use Rattle.std.proofs.Common.{◌∷◌, ◌≡◌, ◌<◌, ◌∙◌, ap, sym, subst, map, List, ℕ, Some, arith}
+use Rattle.std.proofs.Common.{refl, ◌∷◌, ◌∙◌, ap, sym, subst, map, List, ℕ, arith}
 use Rattle.std.specs.Option.{option_map}
 use Rattle.oberon_types.specs.Memory.{plain_ty}
 use Rattle.iface_key.specs.Keys.{option_then, type_then, fields_then}
-use Rattle.iface_key.specs.Read.{Reads, so_far}
+use Rattle.iface_key.specs.Read.{Reads}
 use Rattle.iface_key.specs.ReadTypes.{IsNestedIn, IsNextIn, plain_field, field_then}
 use Rattle.iface_key.proofs.Listed.{exits, none_next, so_far_step, so_far_last, map_more}
 use Rattle.iface_key.proofs.Longer.{item_smaller, field_longer}
@@ -24,15 +24,6 @@ read_larger-returns-in_err-count t c = exits _ _ c.from_residual.result c.in_err
 
 pub read_larger-returns-then-depth-eq0 : goal.read_larger-returns-then-depth-eq0
 read_larger-returns-then-depth-eq0 t c e = no_flat_type c.args.tag c.args.text.now c.args.depth (omega (arith, c.requires, c.if-tag-eq6.false)) c.if-depth-eq0.true
-
-pub read_larger-returns-in_err-length : goal.read_larger-returns-in_err-length
-read_larger-returns-in_err-length t c = exits _ _ c.from_residual-in_err-length.result c.in_err-length.field-0.0 c.from_residual-in_err-length.ensures.1 (λ e. no_array_length c.args.tag c.args.text.now (IsNestedIn c.args.depth) c.if-tag-eq7.true (c.in_err-length.ensures e))
-
-pub read_larger-returns-in_err-item : goal.read_larger-returns-in_err-item
-read_larger-returns-in_err-item t c = exits _ _ c.from_residual-in_err-item.result c.in_err-item.field-0.0 c.from_residual-in_err-item.ensures.1 (λ e. no_array_element c.args.tag c.args.text.now c.args.depth c.in_ok-length.length c.in_ok-length.behind_length.now c.if-tag-eq7.true c.in_ok-length.ensures (c.in_err-item.ensures e))
-
-pub read_larger-returns-in_err-part : goal.read_larger-returns-in_err-part
-read_larger-returns-in_err-part t c = exits _ _ c.from_residual-in_err-part.result c.in_err-part.field-0.0 c.from_residual-in_err-part.ensures.1 (λ e. no_open_element c.args.tag c.args.text.now c.args.depth c.if-tag-eq8.true (c.in_err-part.ensures e))
 
 pub read_larger-returns-in_err-given : goal.read_larger-returns-in_err-given
 read_larger-returns-in_err-given t c = exits _ _ c.from_residual-in_err-given.result c.in_err-given.field-0.0 c.from_residual-in_err-given.ensures.1 (λ e. no_record_type c.args.tag c.args.text.now c.args.depth c.if-tag-eq9.true (c.in_err-given.ensures e))
@@ -91,3 +82,18 @@ read_fields-fields-preserved t c = so_far_step (option_then field_then) listed_t
 
 pub read_fields-fields-smaller : goal.read_fields-fields-smaller
 read_fields-fields-smaller t c = item_smaller field_then field_longer _ c.fields.left.now c.in_ok-next.behind.now c.in_ok-next.ensures
+
+pub read_larger-returns-then-tag-eq7 : goal.read_larger-returns-then-tag-eq7
+read_larger-returns-then-tag-eq7 t c = subst (λ (k : ℕ). Reads plain_ty type_then (IsNestedIn c.args.depth) (k ∷ c.args.text.now) c.read_array.result) (sym c.if-tag-eq7.true) c.read_array.ensures
+
+pub read_larger-returns-then-tag-eq8 : goal.read_larger-returns-then-tag-eq8
+read_larger-returns-then-tag-eq8 t c = subst (λ (k : ℕ). Reads plain_ty type_then (IsNestedIn c.args.depth) (k ∷ c.args.text.now) c.read_open.result) (sym c.if-tag-eq8.true) c.read_open.ensures
+
+pub read_array-returns-in_err-length : goal.read_array-returns-in_err-length
+read_array-returns-in_err-length t c = exits _ _ c.from_residual.result c.in_err-length.field-0.0 c.from_residual.ensures.1 (λ e. no_array_length 7 c.args.text.now (IsNestedIn c.args.depth) refl (c.in_err-length.ensures e))
+
+pub read_array-returns-in_err-item : goal.read_array-returns-in_err-item
+read_array-returns-in_err-item t c = exits _ _ c.from_residual-in_err-item.result c.in_err-item.field-0.0 c.from_residual-in_err-item.ensures.1 (λ e. no_array_element 7 c.args.text.now c.args.depth c.in_ok-length.length c.in_ok-length.behind_length.now refl c.in_ok-length.ensures (c.in_err-item.ensures e))
+
+pub read_open-returns-in_err-part : goal.read_open-returns-in_err-part
+read_open-returns-in_err-part t c = exits _ _ c.from_residual.result c.in_err-part.field-0.0 c.from_residual.ensures.1 (λ e. no_open_element 8 c.args.text.now c.args.depth refl (c.in_err-part.ensures e))

@@ -10,6 +10,12 @@ decreases-read_type l = 5 * l.depth + 3
 abbrev pub decreases-read_larger : goal.decreases-read_larger
 decreases-read_larger l = 5 * l.depth + 2
 
+abbrev pub decreases-read_array : goal.decreases-read_array
+decreases-read_array l = 5 * l.depth + 1
+
+abbrev pub decreases-read_open : goal.decreases-read_open
+decreases-read_open l = 5 * l.depth + 1
+
 abbrev pub decreases-read_record : goal.decreases-read_record
 decreases-read_record l = 5 * l.depth + 1
 

@@ -1,4 +1,4 @@
-use Rattle.std.proofs.Common.{slice_get, ap, sym, ◌∙◌}
+use Rattle.std.proofs.Common.{slice_get, ap, ◌∙◌}
 use Rattle.iface_key.proofs.KeyLaws.{one_number, stored_key, kept_key}
 use Rattle.iface_key.proofs.keys.Keys.intern.Goals as goal
 

@@ -1,4 +1,4 @@
-use Rattle.std.proofs.Common.{List, slice_get, ap, sym, ◌∙◌}
+use Rattle.std.proofs.Common.{slice_get, ap, ◌∙◌}
 use Rattle.iface_key.proofs.KeyLaws.{same_keys}
 use Rattle.iface_key.proofs.keys.Keys.same.Goals as goal
 
