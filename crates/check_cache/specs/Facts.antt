@@ -1,5 +1,5 @@
 -- What a kept check promises.
-use Rattle.std.specs.Prelude.{◌≡◌, ℕ, List, [], ◌∷◌, map, length}
+use Rattle.std.specs.Prelude.{◌≡◌, ℕ, List, map, length}
 use Rattle.std.specs.List.{zip}
 use Rattle.ob_text.specs.declared.held.Held.{Held}
 use Rattle.iface_key.specs.Keys.{key_of_view}

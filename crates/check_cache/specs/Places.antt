@@ -1,5 +1,5 @@
 -- What the two places of a pair have, and what a look finds there.
-use Rattle.std.specs.Prelude.{◌≡◌, ◌⊎◌, ℕ, Bool, List, Option, Some, None, if◌then◌else◌, IfSome}
+use Rattle.std.specs.Prelude.{◌≡◌, ◌⊎◌, Option, Some, None, IfSome}
 use Rattle.indexmap.specs.IndexMap.{get}
 use Rattle.check_cache.specs.contracts.pair.PairKeyPartialEq.TheImpl.{eq-value}
 use Rattle.check_cache.specs.declared.cache.Cache.{Cache}
