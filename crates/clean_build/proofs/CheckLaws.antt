@@ -1,6 +1,6 @@
 -- The check of a module by the views of its imports gives the list and the view of the clean build.
-use Rattle.std.proofs.Common.{Contains, ◌≡◌, ℕ, List, sym, subst}
-use Rattle.std.specs.Prelude.{Some, Result, Ok, Err, IfOk}
+use Rattle.std.proofs.Common.{◌≡◌, ℕ, List, sym, subst}
+use Rattle.std.specs.Prelude.{Some, Result, Ok, Err, IfOk, Contains}
 use Rattle.std.specs.List.{slice_get}
 use Rattle.ob_text.specs.declared.diagnostic.Diagnostic.{Diagnostic}
 use Rattle.oberon_types.specs.declared.entity.View.{View}
