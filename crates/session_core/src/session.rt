@@ -89,6 +89,7 @@ impl Core {
         ensures needs { OnOk result (NeedsWhatItAwaits self.new) }
         ensures alive { OnOk result (IsAlive self.new) }
         ensures dead { OnErr result (¬ IsAlive self.new) }
+        ensures found { OnOk result (IsAlive self.old) }
     {
         let acted = self.act(body);
         self.dead = acted.is_err();
@@ -106,6 +107,7 @@ impl Core {
         ensures free { OnOk result (IsFree self.new) }
         ensures alive { OnOk result (IsAlive self.new) }
         ensures dead { OnErr result (¬ IsAlive self.new) }
+        ensures found { OnOk result (IsAlive self.old) }
         ensures status { status_of self.new ≡ status_of self.old }
     {
         let acted = self.act_on_hand(got);
@@ -122,6 +124,7 @@ impl Core {
             → StandsFor self.new (ends why ∷ order) }
         ensures alive { OnOk result (IsAlive self.new) }
         ensures dead { OnErr result (¬ IsAlive self.new) }
+        ensures found { OnOk result (IsAlive self.old) }
     {
         let acted = self.act_on_end(why);
         self.dead = acted.is_err();
