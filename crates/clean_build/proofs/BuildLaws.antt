@@ -14,8 +14,9 @@ use Rattle.build_plan.specs.Rows.{OnCycle}
 use Rattle.oberon_types.specs.declared.entity.View.{View}
 use Rattle.build_rules.specs.Views.{HasView}
 use Rattle.build_rules.specs.World.{World, Imports}
-use Rattle.clean_build.specs.Build.{AreModules, HasListAt, IsListOf, IsSoFar, Slots}
-use Rattle.clean_build.specs.Known.{view_at}
+use Rattle.build_sources.specs.Modules.{AreModules}
+use Rattle.clean_build.specs.Build.{HasListAt, IsListOf, IsSoFar, Slots}
+use Rattle.build_sources.specs.Known.{view_at}
 use Rattle.target_graph.specs.Workspace.{pairs_of}
 
 not_listed : (xs : List ℕ) (x : ℕ) → (Contains xs x → ⊥) → list_any (eqb x) xs ≡ false

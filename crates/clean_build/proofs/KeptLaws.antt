@@ -17,11 +17,13 @@ use Rattle.oberon_types.specs.Memory.{plain_view}
 use Rattle.build_rules.specs.Views.{HasList, HasView, Shows}
 use Rattle.build_rules.specs.World.{World, IsCyclic}
 use Rattle.target_graph.specs.Workspace.{pairs_of}
+use Rattle.build_sources.proofs.KeptViews.{later_views, views_here, views_length, views_other}
+use Rattle.build_sources.proofs.RowLaws.{rows_within}
 use Rattle.clean_build.proofs.BuildLaws.{one_on}
-use Rattle.clean_build.proofs.ImportLaws.{cyclic_rows}
+use Rattle.build_sources.proofs.ImportLaws.{cyclic_rows}
 use Rattle.clean_build.specs.Build.{IsListOf, IsSoFar, Slots}
-use Rattle.clean_build.specs.Known.{view_at}
-use Rattle.clean_build.specs.Rows.{AreRows}
+use Rattle.build_sources.specs.Known.{view_at}
+use Rattle.build_sources.specs.Rows.{AreRows}
 
 -- ---- as it begins
 
@@ -31,16 +33,6 @@ nothing x c = let h = c.1 in omega (arith, h)
 none_twice : IsDistinct ◌==◌ []
 unfolding IsDistinct
 none_twice = tt
-
-pub rows_within : (w : World) (rows : List (List ℕ)) → AreRows w rows → AreWithin rows
-rows_within w rows are i d h k e below =
-    let row : List ℕ = get_or rows i d in
-    let listed : Contains (row_at rows i) (get_or row k e) =
-    subst (λ (r : List ℕ). Contains r (get_or row k e)) (get_or_default rows i d [] h) (Contains-get_or row k e below) in
-    let import = (are.each i (get_or row k e)).0 listed in
-    let sees = import.means.visible.sees in
-    let within = slice_get_within (pairs_of w.targets) (get_or row k e) sees.pair sees.there in
-    omega (arith, within, are.size)
 
 module _ (w : World) (modules : List ℕ) (rows : List (List ℕ)) (are : AreRows w rows) (kept : List View) (slots : Slots) where
   pub begun : length kept ≡ length (pairs_of w.targets) → length slots ≡ length (pairs_of w.targets) → ((p : ℕ) → OnCycle rows p → view_at kept p ≡ cyclic_view) → IsSoFar w modules (fresh rows) kept slots
@@ -62,23 +54,6 @@ module _ (w : World) (modules : List ℕ) (rows : List (List ℕ)) (are : AreRow
       seen_at p (inr on) = subst (HasView w p) (sym (cyclic p on)) (Shows.cyclic ((cyclic_rows w rows are p).0 on))
 
 -- ---- as a check is kept
-
--- the views, where that of a module on a cycle stays
-abbrev pub later_views : Bool → List View → ℕ → View → List View
-later_views cyclic kept m view = if cyclic then kept else slice_set kept m view
-
-views_length : (cyclic : Bool) (kept : List View) (m : ℕ) (view : View) → length (later_views cyclic kept m view) ≡ length kept
-views_length true kept m view = refl
-views_length false kept m view = length-set kept m view
-
-views_other : (cyclic : Bool) (kept : List View) (m : ℕ) (view : View) (p : ℕ) → p ≢ m → view_at (later_views cyclic kept m view) p ≡ view_at kept p
-views_other true kept m view p other = refl
-views_other false kept m view p other = ap (λ (vs : List ViewTree). get_or vs p missing_view) (map-set plain_view kept m view) ∙ get_or-set_other (map plain_view kept) m p (plain_view view) missing_view other
-
-views_here : (kept : List View) (m : ℕ) (view : View) → m < length kept → view_at (slice_set kept m view) m ≡ plain_view view
-views_here kept m view h =
-    let size = length-map kept plain_view in
-    ap (λ (vs : List ViewTree). get_or vs m missing_view) (map-set plain_view kept m view) ∙ get_or-set_same (map plain_view kept) m (plain_view view) missing_view (omega (arith, h, size))
 
 module _ (w : World) (modules : List ℕ) (pl : Places) (m : ℕ) (kept : List View) (slots : Slots) (far : IsSoFar w modules pl kept slots) (ready : IsReady pl m) where
   -- a module that isn't of the build is passed over
@@ -104,29 +79,3 @@ module _ (w : World) (modules : List ℕ) (pl : Places) (m : ℕ) (kept : List V
         (views_length cyclic kept m view) (length-set slots m (Some list))
         (views_other cyclic kept m view) (λ p other. get_or-set_other slots m p (Some list) None other)
         (λ among. (view_here cyclic refl among, subst (IsListOf w m) (sym (get_or-set_same slots m (Some list) None within)) listed))
-
--- ---- the first views
-
-module _ (rows : List (List ℕ)) (views : List View) (view : View) (n : ℕ) (size : length views ≡ n) where
-  pub views_more : ((p : ℕ) → p < n → OnCycle rows p → view_at views p ≡ cyclic_view) → (OnCycle rows n → plain_view view ≡ cyclic_view)
-      → (p : ℕ) → p < n + 1 → OnCycle rows p → view_at (views ++ view ∷ []) p ≡ cyclic_view
-  views_more others this p h on = by (cases_eq p n)
-    where
-      all : List ViewTree
-      all = map plain_view views
-
-      sized : length all ≡ length views
-      sized = length-map views plain_view
-
-      added : (q : ℕ) → view_at (views ++ view ∷ []) q ≡ get_or (all ++ plain_view view ∷ []) q missing_view
-      added q = ap (λ (vs : List ViewTree). get_or vs q missing_view) (map-append plain_view views (view ∷ []))
-
-      by : (p ≡ n) ⊎ (p ≡ n → ⊥) → view_at (views ++ view ∷ []) p ≡ cyclic_view
-      by (inl e) =
-          added p
-          ∙ ap (λ k. get_or (all ++ plain_view view ∷ []) k missing_view) (e ∙ sym size ∙ sym sized)
-          ∙ get_or-append_seam all (plain_view view) [] missing_view
-          ∙ this (subst (OnCycle rows) e on)
-      by (inr other) =
-          let below : p < n = omega (arith, h, other) in
-          added p ∙ get_or_append_left all (plain_view view ∷ []) missing_view p (omega (arith, below, size, sized)) ∙ others p below on

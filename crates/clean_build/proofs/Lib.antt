@@ -1,11 +1,3 @@
-pub mod DocumentLaws
-pub mod ImportLaws
-pub mod CheckLaws
 pub mod BuildLaws
-pub mod ReadLaws
-pub mod RowLaws
-pub mod ViewLaws
-pub mod OutLaws
 pub mod KeptLaws
 pub mod OrderLaws
-pub mod ListLaws

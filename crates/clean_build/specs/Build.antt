@@ -1,18 +1,16 @@
 -- How far a build is: the views and the lists that it has.
-use Rattle.std.specs.Prelude.{◌≡◌, ◌==◌, ◌<◌, ◌⊎◌, ℕ, List, Option, Some, None, length, Contains, All, Vec}
-use Rattle.std.specs.List.{IsDistinct, slice_get, slice_index_or}
+use Rattle.std.specs.Prelude.{◌≡◌, ◌==◌, ◌<◌, ◌⊎◌, ℕ, List, Option, Some, None, length, Contains, Vec}
+use Rattle.std.specs.List.{IsDistinct, slice_index_or}
 use Rattle.std.specs.declared.alloc.Global.{Global}
 use Rattle.build_plan.specs.Rows.{AreWithin, OnCycle}
 use Rattle.build_plan.specs.Places.{Places}
 use Rattle.ob_text.specs.declared.diagnostic.Diagnostic.{Diagnostic}
 use Rattle.oberon_types.specs.declared.entity.View.{View}
-use Rattle.target_graph.specs.Workspace.{pairs_of, IsVisible}
-use Rattle.target_graph.specs.declared.target.Target.{Target}
-use Rattle.target_graph.specs.declared.target.Pair.{Pair}
+use Rattle.target_graph.specs.Workspace.{pairs_of}
 use Rattle.build_rules.specs.World.{World}
 use Rattle.build_rules.specs.Views.{HasView, HasList}
-use Rattle.clean_build.specs.Known.{view_at}
-use Rattle.clean_build.specs.Rows.{AreRows}
+use Rattle.build_sources.specs.Known.{view_at}
+use Rattle.build_sources.specs.Rows.{AreRows}
 
 abbrev pub Slots : Type 0
 Slots = List (Option (Vec Diagnostic Global))
@@ -24,13 +22,6 @@ IsListOf w p None = ⊥
 -- the list of a module stands at its index
 abbrev pub HasListAt : World → Slots → ℕ → Type 0
 HasListAt w slots p = IsListOf w p (slice_index_or slots p None)
-
--- the modules of a build: each name in them means one of them, or none at all
-pub record AreModules (targets : List Target) (modules : List ℕ) : Type 0 where
-  pub within : All (λ p. p < length (pairs_of targets)) modules
-  pub distinct : IsDistinct ◌==◌ modules
-  pub closed : (p : ℕ) → Contains modules p → (pair : Pair) → slice_get (pairs_of targets) p ≡ Some pair
-      → (name : List ℕ) (q : ℕ) → IsVisible targets pair.target name q → Contains modules q
 
 -- each module of the build that was finished has its list, and each that was or is on a cycle its view
 pub record IsSoFar (w : World) (modules : List ℕ) (places : Places) (kept : List View) (slots : Slots) : Type 0 where

@@ -1,5 +1,1 @@
-pub mod Documents
-pub mod Rows
-pub mod Known
-pub mod Sources
 pub mod Build

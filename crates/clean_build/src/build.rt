@@ -1,20 +1,14 @@
-ghost use Rattle.std.specs.Prelude.{◌≡◌, ◌==◌, ◌<◌, ◌^◌, ℕ, Some, if◌then◌else◌, length, nat_eq, IfOk, Contains};
-ghost use Rattle.std.specs.List.{All, list_any, slice_set};
-ghost use Rattle.indexmap.specs.IndexSet.{contains};
+ghost use Rattle.std.specs.Prelude.{◌≡◌, ◌<◌, ℕ, Some, if◌then◌else◌, length, IfOk, Contains};
+ghost use Rattle.std.specs.List.{All, slice_set};
 ghost use Rattle.build_plan.specs.Lists.{lists};
-ghost use Rattle.build_plan.specs.Rows.{OnCycle};
 ghost use Rattle.ob_text.specs.Held.{IsReadable};
-ghost use Rattle.oberon_types.specs.Entities.{cyclic_view};
 ghost use Rattle.build_rules.specs.Views.{AreLists};
-ghost use Rattle.clean_build.specs.Build.{AreModules, HasListAt};
-ghost use Rattle.clean_build.specs.Known.{view_at};
-ghost use Rattle.clean_build.specs.Sources.{AreSources, world};
+ghost use Rattle.build_sources.specs.Modules.{AreModules};
+ghost use Rattle.build_sources.specs.Sources.{AreSources, world};
+ghost use Rattle.clean_build.specs.Build.{HasListAt};
 
-use crate::documents::Documents;
-use crate::output::out_view;
-use crate::sources::Sources;
 use build_plan::Plan;
-use indexmap::IndexSet;
+use build_sources::{Sources, first_views, set_of};
 use ob_text::{Diagnostic, Held, NoMemory, Snapshot};
 use oberon_module::Checked;
 use oberon_types::View;
@@ -34,11 +28,7 @@ pub fn clean_build(
     ensures { IfOk result (λ found. AreLists (record { targets = workspace.now.targets; entries = snapshot.now.entries }) modules.now (lists found)) }
 {
     let absent = Held::Absent;
-    let sources = Sources {
-        workspace,
-        documents: Documents::read(alloc, snapshot.entries.as_slice(), &absent)?,
-        out: out_view(alloc)?,
-    };
+    let sources = Sources::new(alloc, workspace, snapshot, &absent)?;
     in_order(alloc, &sources, modules)
 }
 
@@ -93,24 +83,6 @@ fn keep(
     }
 }
 
-/// The views of modules before any is checked: that of a module on a cycle is known.
-fn first_views(alloc: Global, plan: &Plan, count: usize) -> Result<Vec<View>, NoMemory>
-    requires rows { count ≡ length plan.now.rows }
-    requires few { count < 2 ^ 32 }
-    ensures count { IfOk result (λ views. length views.items ≡ count) }
-    ensures cyclic { IfOk result (λ views. (p : ℕ) → OnCycle plan.now.rows p → view_at views.items p ≡ cyclic_view) }
-{
-    let mut views = Vec::new(alloc);
-    for index in 0..count {
-        views.push(if plan.on_cycle(index as u32) {
-            View::Cyclic
-        } else {
-            View::Missing
-        })?;
-    }
-    Ok(views)
-}
-
 fn no_lists(alloc: Global, count: usize) -> Result<Vec<Option<Vec<Diagnostic>>>, NoMemory>
     ensures { IfOk result (λ lists. length lists.items ≡ count) }
 {
@@ -140,16 +112,4 @@ fn in_order(
         }
     }
     Ok(found)
-}
-
-/// The numbers as a set.
-pub fn set_of(alloc: Global, numbers: &[u32]) -> Result<IndexSet<u32>, NoMemory>
-    ensures { IfOk result (λ set. (n : ℕ) → contains nat_eq set n
-        ≡ list_any (λ number. number == n) numbers.now) }
-{
-    let mut set = IndexSet::new(alloc);
-    for number in numbers {
-        set.insert(*number)?;
-    }
-    Ok(set)
 }

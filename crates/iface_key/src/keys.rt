@@ -4,9 +4,6 @@ use ob_text::NoMemory;
 use std::alloc::Global;
 use std::marker::Model;
 
-/// How many keys there is room for at first.
-const FIRST_ROOM: usize = 16;
-
 /// Keys with a number each, in the order in which they came. A number stays with its key.
 #[derive(Drop)]
 pub struct Keys {
@@ -25,12 +22,13 @@ impl Model for Keys {
 impl Keys {
     ghost use Rattle.std.specs.Prelude.{◌≡◌, ◌↔◌, ℕ, List, [], slice_get, IfOk, OnOk, OnErr, IsTrue};
 
-    /// No key has a number.
-    pub fn new(alloc: Global) -> Result<Keys, NoMemory>
-        ensures { IfOk result (λ k. k ≡ []) }
+    /// No key has a number. Takes no memory.
+    pub fn new(alloc: Global) -> Keys
+        ensures { result ≡ [] }
     {
-        let keys = IndexSet::with_capacity(alloc, FIRST_ROOM)?;
-        Ok(Keys { keys })
+        Keys {
+            keys: IndexSet::new(alloc),
+        }
     }
 
     /// The number of a key: the one that it has, or else the next that none has.
@@ -50,5 +48,12 @@ impl Keys {
     {
         let _count = self.keys.len();
         a == b
+    }
+
+    /// A law: no two numbers stand for one key.
+    pub fn numbers_differ(&self)
+        ensures { (m n : ℕ) (k : List ℕ) → slice_get self.now m ≡ Some k → slice_get self.now n ≡ Some k → m ≡ n }
+    {
+        let _count = self.keys.len();
     }
 }

@@ -10,7 +10,7 @@ use std::test::Fail;
 /// The samples' keys have numbers of their own, and views that are built apart have the same ones.
 #[test]
 fn samples_differ(rt: HostRuntime) -> Result<(), Fail> {
-    let mut keys = Keys::new(rt.alloc())?;
+    let mut keys = Keys::new(rt.alloc());
     for number in 0..SAMPLES {
         let key = key_of(rt.alloc(), &view(rt.alloc(), numbered(number))?)?;
         assert_eq!(rt; keys.intern(key)?, number as u64);

@@ -5,7 +5,7 @@ use Rattle.std.proofs.lemmas.Bool.Decides.{Decides-eqb}
 use Rattle.std.proofs.lemmas.List.Elements.{All-contains}
 use Rattle.std.proofs.lemmas.Map.Made.{IsDistinct-from_AllPairs}
 use Rattle.std.proofs.lemmas.Option.{same_Some, slice_get_within}
-use Rattle.clean_build.specs.Build.{AreModules}
+use Rattle.build_sources.specs.Modules.{AreModules}
 use Rattle.session_build.specs.Documents.{AreOfBuild}
 use Rattle.session_law.specs.Builds.{IsPairOf, build_document}
 use Rattle.session_law.specs.declared.BuildDocument.{BuildDocument}

@@ -6,7 +6,7 @@ ghost use Rattle.ob_text.specs.Once.{each_once, once_more};
 ghost use Rattle.session_build.specs.Documents.{build_of};
 ghost use Rattle.target_graph.specs.Workspace.{pairs_of};
 
-use clean_build::set_of;
+use build_sources::set_of;
 use indexmap::IndexSet;
 use ob_text::{Items, NoMemory, Path};
 use session_law::BuildDocument;

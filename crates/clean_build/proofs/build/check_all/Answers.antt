@@ -12,11 +12,13 @@ use Rattle.oberon_types.specs.declared.entity.View.{View}
 use Rattle.build_rules.specs.Views.{HasView}
 use Rattle.target_graph.specs.declared.target.Pair.{Pair}
 use Rattle.clean_build.specs.Build.{IsSoFar, Slots}
-use Rattle.clean_build.specs.Known.{view_at}
-use Rattle.clean_build.specs.Sources.{world}
+use Rattle.build_sources.specs.Known.{view_at}
+use Rattle.build_sources.specs.Sources.{world}
 use Rattle.clean_build.proofs.BuildLaws.{all_listed, given_few, imports_seen}
-use Rattle.clean_build.proofs.KeptLaws.{begun, kept_on, later_views, passed_on, rows_within}
-use Rattle.clean_build.proofs.ListLaws.{any_listed, listed_any}
+use Rattle.build_sources.proofs.KeptViews.{later_views}
+use Rattle.build_sources.proofs.RowLaws.{rows_within}
+use Rattle.clean_build.proofs.KeptLaws.{begun, kept_on, passed_on}
+use Rattle.build_sources.proofs.ListLaws.{any_listed, listed_any}
 use Rattle.clean_build.proofs.build.check_all.Goals as goal
 use Rattle.clean_build.proofs.build.check_all.Goals.{then-contains+in_ok-checked, else-contains}
 

@@ -1,6 +1,6 @@
 use Rattle.std.proofs.Common.{◌-◌, length}
 use Rattle.clean_build.specs.Build.{IsSoFar}
-use Rattle.clean_build.specs.Sources.{world}
+use Rattle.build_sources.specs.Sources.{world}
 use Rattle.clean_build.proofs.build.check_all.Given as goal
 
 abbrev pub invariant-modules : goal.invariant-modules

@@ -7,7 +7,7 @@ use Rattle.build_plan.specs.Lists.{lists, lists_of}
 use Rattle.ob_text.specs.declared.diagnostic.Diagnostic.{Diagnostic}
 use Rattle.build_rules.specs.Views.{AreLists, HasList}
 use Rattle.clean_build.specs.Build.{HasListAt, IsListOf, Slots}
-use Rattle.clean_build.specs.Sources.{world}
+use Rattle.build_sources.specs.Sources.{world}
 use Rattle.clean_build.proofs.OrderLaws.{left_on, list_within, lists_more, next_left}
 use Rattle.clean_build.proofs.build.in_order.Goals as goal
 

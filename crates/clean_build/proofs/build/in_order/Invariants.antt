@@ -3,7 +3,7 @@ use Rattle.std.specs.Prelude.{Contains}
 use Rattle.build_plan.specs.Lists.{lists}
 use Rattle.build_rules.specs.Views.{AreLists}
 use Rattle.clean_build.specs.Build.{HasListAt}
-use Rattle.clean_build.specs.Sources.{world}
+use Rattle.build_sources.specs.Sources.{world}
 use Rattle.clean_build.proofs.build.in_order.Given as goal
 
 abbrev pub invariant-loop-module : goal.invariant-loop-module

@@ -5,7 +5,7 @@ use Rattle.std.proofs.lemmas.List.{take_more}
 use Rattle.std.specs.Vec.Iter.{into_iter_items}
 use Rattle.build_plan.specs.Lists.{lists_of}
 use Rattle.build_rules.specs.Views.{AreLists}
-use Rattle.clean_build.specs.Build.{AreModules}
+use Rattle.build_sources.specs.Modules.{AreModules}
 use Rattle.ob_text.specs.declared.diagnostic.Diagnostic.{Diagnostic}
 use Rattle.session_build.specs.Outgoing.{outgoing_said}
 use Rattle.session_build.specs.declared.outgoing.Outgoing.{Outgoing}

@@ -1,0 +1,9 @@
+pub mod DocumentLaws
+pub mod ImportLaws
+pub mod CheckLaws
+pub mod ReadLaws
+pub mod RowLaws
+pub mod ViewLaws
+pub mod OutLaws
+pub mod KeptViews
+pub mod ListLaws

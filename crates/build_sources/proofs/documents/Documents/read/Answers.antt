@@ -1,0 +1,42 @@
+use Rattle.std.proofs.Common.{◌≡◌, ◌+◌, ◌-◌, ◌<◌, ℕ, List, Some, length, drop, sym, ap, subst, ◌∙◌, arith}
+use Rattle.std.specs.Prelude.{if◌then◌else◌}
+use Rattle.std.specs.Str.{bytes_eq}
+use Rattle.indexmap.specs.IndexMap.{get}
+use Rattle.ob_text.specs.Held.{IsReadable, held_at}
+use Rattle.ob_text.specs.declared.held.Held.{Held}
+use Rattle.build_sources.specs.Documents.{AreRead, IsDocument, IsDocumentOf}
+use Rattle.build_sources.proofs.ReadLaws.{one_read}
+use Rattle.build_sources.proofs.documents.Documents.read.Goals as goal
+
+pub bounds-entries-left : goal.bounds-entries-left
+bounds-entries-left c = omega (arith, c.entries-test.true, c.entries.invariant.within)
+
+pub read-requires : goal.read-requires
+read-requires c =
+    let i = c.entries.left - 1 in
+    let h : i < length c.args.entries.now = omega (arith, c.entries-test.true, c.entries.invariant.within) in
+    subst (λ (e : List ℕ × Held). IsReadable e.1) (sym c.index-entries-left.is) (c.requires.texts i c.index-entries-left.result h)
+
+pub entries-preserved : goal.entries-preserved
+entries-preserved c =
+    let entries = c.args.entries.now in
+    let i = c.entries.left - 1 in
+    let next : i + 1 ≡ c.entries.left = omega (arith, c.entries-test.true) in
+    let h : i < length entries = omega (arith, c.entries-test.true, c.entries.invariant.within) in
+    let d = c.in_ok-document.document in
+    record {
+      within = omega (arith, c.entries.invariant.within);
+      read = λ path.
+          let later = get bytes_eq c.entries.known path in
+          subst (IsDocumentOf (held_at (drop i entries) path)) (sym (c.in_ok-put.ensures path ∙ ap (λ (key : List ℕ). if bytes_eq key path then Some d else later) c.in_ok-copy.ensures))
+          (one_read entries i c.index-entries-left.result path d later h c.index-entries-left.is c.in_ok-document.ensures
+          (subst (λ n. IsDocumentOf (held_at (drop n entries) path) later) (sym next) (c.entries.invariant.read path)));
+    }
+
+pub returns-clause-are : goal.returns-clause-are
+returns-clause-are c =
+    let zero : c.entries.left ≡ 0 = omega (arith, c.entries-test.false) in
+    record {
+      known = subst (λ n. AreRead (drop n c.args.entries.now) c.entries.known) zero c.entries.invariant.read;
+      absent = subst (λ (h : Held). IsDocument h c.in_ok-absent.absent) c.requires.absent c.in_ok-absent.ensures;
+    }

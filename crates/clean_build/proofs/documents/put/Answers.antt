@@ -1,4 +1,0 @@
-use Rattle.clean_build.proofs.documents.put.Goals as goal
-
-pub returns : goal.returns
-returns c = λ other. c.in_ok-old.ensures.updates.0 other
