@@ -47,7 +47,7 @@ def read_frame(stream):
 
 
 class Session:
-    """A session over a folder, which counts what is written and published."""
+    """A session over a folder, which counts what is written and published, and the checks that start."""
 
     def __init__(self, folder):
         self.server = subprocess.Popen(
@@ -56,6 +56,7 @@ class Session:
         self.last_id = 0
         self.written = 0
         self.published = 0
+        self.checks = 0
         # The first diagnostic that is published, with its document.
         self.first = None
 
@@ -80,10 +81,12 @@ class Session:
             self.keep(message)
 
     def keep(self, message):
-        """Counts what a notification publishes."""
+        """Counts what a notification publishes, or the check that it starts."""
+        params = message["params"]
+        if message["method"] == "build/taskStart" and "message" in params:
+            self.checks += 1
         if message["method"] != "build/publishDiagnostics":
             return
-        params = message["params"]
         self.published += len(params["diagnostics"])
         if self.first is None and params["diagnostics"]:
             self.first = params["textDocument"]["uri"], params["diagnostics"][0]
@@ -92,12 +95,18 @@ class Session:
         self.ask("build/initialize", INITIALIZE)
         self.notify("build/initialized")
 
-    def memory(self):
-        """The most resident memory until now, in bytes."""
+    def memory(self, what="VmHWM"):
+        """The most resident memory until now, in bytes; or as VmRSS that of now."""
         for line in pathlib.Path(f"/proc/{self.server.pid}/status").read_text().splitlines():
-            if line.startswith("VmHWM:"):
+            if line.startswith(f"{what}:"):
                 return int(line.split()[1]) * 1024
-        sys.exit("the system doesn't tell VmHWM")
+        sys.exit(f"the system doesn't tell {what}")
+
+    def spent(self):
+        """The processor seconds until now."""
+        # Behind the name, which may have blanks and ends at the last parenthesis, utime and stime are words 12 and 13.
+        words = pathlib.Path(f"/proc/{self.server.pid}/stat").read_text().rpartition(")")[2].split()
+        return (int(words[11]) + int(words[12])) / os.sysconf("SC_CLK_TCK")
 
     def leave(self):
         self.ask("build/shutdown", None)

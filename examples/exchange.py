@@ -3,8 +3,9 @@ a copy of examples/workspace, in which modules are broken and mended.
 
 usage: exchange.py [--messages] PROGRAM
 
-Each message is a line, and each diagnostic stands below the message that publishes it, as compilers show it. With
---messages each message is shown whole, as JSON.
+Each message is a line, and each diagnostic stands below the message that publishes it, as compilers show it. Of the
+tasks of a build there is a line for each check that starts, and one for what is found in a target. With --messages each
+message is shown whole, as JSON.
 """
 import json
 import pathlib
@@ -109,6 +110,23 @@ def short_of(value, root):
     return " ".join(str(value[name]) for name in ("displayName", "version") if name in value)
 
 
+def counted(number, word):
+    return f"{number} {word}" if number == 1 else f"{number} {word}s"
+
+
+def followed(method, params, root, names):
+    """What a person follows of a task: which document is checked, or what is found in a target. Else nothing."""
+    if method == "build/taskStart" and "message" in params:
+        return f"checking {params['message'].removeprefix(root)}"
+    if params.get("dataKind") != "compile-report":
+        return None
+    report = params["data"]
+    found = f"{counted(report['errors'], 'error')}, {counted(report['warnings'], 'warning')}"
+    if report.get("noOp"):
+        found = "up to date" if found == "0 errors, 0 warnings" else f"up to date, {found}"
+    return f"{names[report['target']['uri']]}: {found}"
+
+
 class Client:
     def __init__(self, program, folder, is_whole):
         self.server = subprocess.Popen(
@@ -118,6 +136,8 @@ class Client:
         self.is_whole = is_whole
         self.last_id = 0
         self.targets = []
+        # The names of the targets, by their ids.
+        self.names = {}
 
     def show(self, who, what, value, lines=()):
         """Prints a message, and what it says: its value as JSON, or else these lines."""
@@ -144,7 +164,7 @@ class Client:
             if answer.get("id") == self.last_id and "method" not in answer:
                 self.show_answer(answer)
                 return answer
-            self.show("server", answer.get("method", "response"), answer.get("params"), self.lines_of(answer))
+            self.show_told(answer)
         sys.exit("the server ended without an answer")
 
     def show_answer(self, answer):
@@ -155,6 +175,14 @@ class Client:
         else:
             short = "" if self.is_whole else short_of(value, self.folder.as_uri() + "/")
         self.show("server", f"{kind} of request {self.last_id}" + (f": {short}" if short else ""), value)
+
+    def show_told(self, message):
+        """Prints what the server tells by itself."""
+        method, params = message.get("method", "response"), message.get("params")
+        if self.is_whole or not method.startswith("build/task"):
+            self.show("server", method, params, self.lines_of(message))
+        elif line := followed(method, params, self.folder.as_uri() + "/", self.names):
+            self.show("server", line, params)
 
     def lines_of(self, message):
         """What a publication says."""
@@ -207,8 +235,10 @@ def show_session(client):
     )
     told = client.request("workspace/buildTargets")
     client.targets = [target["id"] for target in told["result"]["targets"]]
+    client.names = {target["id"]["uri"]: target["displayName"] for target in told["result"]["targets"]}
     client.request("buildTarget/sources", {"targets": client.targets})
     compile_all(client, "the workspace as it is:")
+    compile_all(client, "nothing changed:")
     for fault in FAULTS:
         show_fault(client, *fault)
     client.request("build/shutdown")

@@ -11,4 +11,4 @@ world s = record { targets = s.workspace.now.targets; entries = s.documents.entr
 
 pub record AreSources (s : Sources) : Type 0 where
   pub documents : AreDocuments s.documents
-  pub out : plain_view s.out ≡ out_view
+  pub out : plain_view s.out.value ≡ out_view

@@ -13,7 +13,7 @@ ghost use Rattle.target_graph.specs.Workspace.{pairs_of, stem_at};
 ghost use Rattle.build_rules.specs.Locality.{IsApart};
 ghost use Rattle.build_rules.specs.World.{Imports, IsCyclic, held_in};
 ghost use Rattle.build_rules.specs.Views.{as_view, HasView, HasList, IsCheck, IsShown};
-ghost use Rattle.build_sources.specs.Documents.{AreDocuments, AreImportsOf, IsDocument};
+ghost use Rattle.build_sources.specs.Documents.{AreDocuments, AreImportsOf, AreKnown, IsDocument};
 ghost use Rattle.build_sources.specs.Known.{AreViewsOf, IsViewOf, view_at};
 ghost use Rattle.build_sources.specs.Rows.{AreRows, IsRow};
 ghost use Rattle.build_sources.specs.Sources.{AreSources, world};
@@ -22,7 +22,7 @@ use crate::documents::{Document, Documents};
 use crate::output::out_view;
 use indexmap::IndexMap;
 use ob_text::{Held, Name, NoMemory, Snapshot};
-use oberon_module::{Checked, check_read};
+use oberon_module::Checked;
 use oberon_types::View;
 use std::alloc::Global;
 use target_graph::{Pair, Workspace, stem_of};
@@ -33,26 +33,30 @@ pub struct Sources<'a> {
     pub workspace: &'a Workspace,
     pub documents: Documents<'a>,
     /// What the module Out shows.
-    pub out: View,
+    pub out: Box<View>,
 }
 
 impl<'a> Sources<'a> {
-    /// Reads what was handed out of the documents of a workspace's modules. `absent` stands for each that wasn't.
+    /// Reads what was handed out of the documents of a workspace's modules, but for those whose imports are known: for each
+    /// entry of the snapshot in order the names that it imports, or none. A shorter list knows nothing of the others.
+    /// `absent` stands for each document that wasn't handed out.
     pub fn new(
         alloc: Global,
         workspace: &'a Workspace,
         snapshot: &'a Snapshot,
         absent: &'a Held,
+        known: &[Option<&[Name]>],
     ) -> Result<Sources<'a>, NoMemory>
         requires absent { absent.now ≡ helds.Absent }
         requires texts { All (λ entry. IsReadable entry.1) snapshot.now.entries }
+        requires known { AreKnown snapshot.now.entries known.now }
         ensures sources { IfOk result AreSources }
         ensures world { IfOk result (λ sources. world sources ≡ record { targets = workspace.now.targets; entries = snapshot.now.entries }) }
     {
         Ok(Sources {
             workspace,
-            documents: Documents::read(alloc, snapshot.entries.as_slice(), absent)?,
-            out: out_view(alloc)?,
+            documents: Documents::read(alloc, snapshot.entries.as_slice(), absent, known)?,
+            out: Box::new(alloc, out_view(alloc)?)?,
         })
     }
 
@@ -171,7 +175,7 @@ impl<'a> Sources<'a> {
     {
         let document = self.document(index);
         let stem = self.stem(alloc, index)?;
-        check_read(alloc, &stem, document.held, &document.reading, views)
+        document.check(alloc, &stem, views)
     }
 
     /// The view of each name that a module of a target imports; a name without a view is no module.

@@ -1,5 +1,5 @@
 ghost use Rattle.std.specs.Prelude.{◌≡◌, Some, None, if◌then◌else◌, IfOk, IfSome, IfNone, OnOk, OnErr};
-ghost use Rattle.check_cache.specs.Facts.{FactTree};
+ghost use Rattle.check_cache.specs.Facts.{FactTree, IsFact};
 ghost use Rattle.check_cache.specs.Pairs.{same_pair, has_target, is_among};
 ghost use Rattle.check_cache.specs.Places.{first_at, other_at, Lacks, Chosen, SamePlaces, moved};
 ghost use Rattle.check_cache.specs.Wanted.{HasText, IsOf};
@@ -64,7 +64,7 @@ impl Cache {
     pub fn imports(&self, pair: &PairKey, held: &Held) -> Option<&[Name]>
         ensures some { IfSome result (λ names. (fact : FactTree)
             × Chosen (HasText held.now) (first_at self.now pair.now) (other_at self.now pair.now) fact
-            × (names.now ≡ fact.checked.imports.items)) }
+            × IsFact fact × (names.now ≡ fact.checked.imports.items)) }
         ensures first_none { IfNone result (Lacks (HasText held.now)
             (first_at self.now pair.now)) }
         ensures other_none { IfNone result (Lacks (HasText held.now)

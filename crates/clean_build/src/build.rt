@@ -28,7 +28,7 @@ pub fn clean_build(
     ensures { IfOk result (λ found. AreLists (record { targets = workspace.now.targets; entries = snapshot.now.entries }) modules.now (lists found)) }
 {
     let absent = Held::Absent;
-    let sources = Sources::new(alloc, workspace, snapshot, &absent)?;
+    let sources = Sources::new(alloc, workspace, snapshot, &absent, &[])?;
     in_order(alloc, &sources, modules)
 }
 

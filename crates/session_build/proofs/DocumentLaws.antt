@@ -43,11 +43,11 @@ document_here space q pair path document target there path_is document_is target
 pub among_by : (closure : List ℕ) (target : ℕ) → list_any (λ n. n == target) closure ≡ true → Contains closure target
 among_by closure target is = Contains-list_any (λ a b. b == a) (λ a b same. sym ((Decides-eqb b a).0 same)) closure target is
 
-or_true : (b : Bool) → (b || true) ≡ true
+pub or_true : (b : Bool) → (b || true) ≡ true
 or_true true = refl
 or_true false = refl
 
-any_at : (closure : List ℕ) (target k : ℕ) → k < length closure → get_or closure k target ≡ target → list_any (λ n. n == target) closure ≡ true
+pub any_at : (closure : List ℕ) (target k : ℕ) → k < length closure → get_or closure k target ≡ target → list_any (λ n. n == target) closure ≡ true
 any_at [] target k h e = absurd (omega arith)
 any_at (n ∷ closure) target zero h e = ap (λ b. b || list_any (λ m. m == target) closure) ((Decides-eqb n target).1 e)
 any_at (n ∷ closure) target (suc k) h e = ap (λ b. (n == target) || b) (any_at closure target k (omega arith) e) ∙ or_true (n == target)
@@ -133,11 +133,11 @@ map_distinct f (x ∷ xs) apart i j d h k =
     let h' : i < length (x ∷ xs) = omega arith in
     λ same. apart i j x h k' (sym (get_or-map f (x ∷ xs) i x d h') ∙ (same ∙ get_or-map f (x ∷ xs) j x d k'))
 
-abbrev key_at : Space → ℕ → TableKey
+abbrev pub key_at : Space → ℕ → TableKey
 key_at space q = (build_document space q).key
 
 module _ (space : Space) (closure : List ℕ) (apart : AllPairs (AreApart space) (pairs_of space.targets)) where
-  keys_apart : (p q : ℕ) → p < q → IsPairOf space.targets closure p → IsPairOf space.targets closure q → key_at space p ≢ key_at space q
+  pub keys_apart : (p q : ℕ) → p < q → IsPairOf space.targets closure p → IsPairOf space.targets closure q → key_at space p ≢ key_at space q
   keys_apart p q less a b same =
       let pairs : List Pair = pairs_of space.targets in
       let first : get_or pairs p a.pair ≡ a.pair = get_or_from_slice_get pairs p a.pair a.pair a.there in

@@ -6,8 +6,8 @@ use Rattle.std.proofs.lemmas.List.Elements.{All-contains}
 use Rattle.std.proofs.lemmas.Map.Made.{IsDistinct-from_AllPairs}
 use Rattle.std.proofs.lemmas.Option.{same_Some, slice_get_within}
 use Rattle.build_sources.specs.Modules.{AreModules}
-use Rattle.session_build.specs.Documents.{AreOfBuild}
-use Rattle.session_law.specs.Builds.{IsPairOf, build_document}
+use Rattle.session_law.specs.Builds.{AreDocuments, IsPairOf, build_document}
+use Rattle.session_law.specs.Methods.{Build}
 use Rattle.session_law.specs.declared.BuildDocument.{BuildDocument}
 use Rattle.target_graph.specs.Workspace.{Space, IsReached, IsVisible, IsWay, Leads, pairs_of}
 use Rattle.target_graph.specs.declared.target.Pair.{Pair}
@@ -36,31 +36,29 @@ own_pairs : (space : Space) (pairs : List ℕ) → map (λ (it : BuildDocument).
 own_pairs space [] = refl
 own_pairs space (q ∷ pairs) = ap (λ qs. q ∷ qs) (own_pairs space pairs)
 
-module _ (space : Space) (documents : List BuildDocument) (of_build : AreOfBuild space documents) where
+module _ (build : Build) (documents : List BuildDocument) (are : AreDocuments build documents) where
   abbrev targets : List Target
-  targets = space.targets
+  targets = build.space.targets
 
   -- what a name in one of them means is one of them
-  closed : (p : ℕ) → Contains of_build.are.pairs p → (pair : Pair) → slice_get (pairs_of targets) p ≡ Some pair
-      → (name : List ℕ) (q : ℕ) → IsVisible targets pair.target name q → Contains of_build.are.pairs q
+  closed : (p : ℕ) → Contains are.pairs p → (pair : Pair) → slice_get (pairs_of targets) p ≡ Some pair
+      → (name : List ℕ) (q : ℕ) → IsVisible targets pair.target name q → Contains are.pairs q
   closed p here pair there name q visible =
-      let are = of_build.are in
       let own = All-contains (IsPairOf targets are.closure) are.pairs p are.each here in
       let same : own.pair ≡ pair = same_Some own.pair pair (sym own.there ∙ there) in
-      let reached = All-contains (IsReached targets of_build.asked) are.closure own.pair.target are.closed.reached own.among in
+      let reached = All-contains (IsReached targets build.asked) are.closure own.pair.target are.closed.reached own.among in
       let sees = visible.sees in
       let leads : Leads targets own.pair.target sees.pair.target = subst (λ (x : Pair). Leads targets x.target sees.pair.target) (sym same) sees.leads in
       are.whole q
       (record {
         pair = sees.pair;
         there = sees.there;
-        among = are.closed.whole sees.pair.target (reached_on targets of_build.asked own.pair.target sees.pair.target reached leads);
+        among = are.closed.whole sees.pair.target (reached_on targets build.asked own.pair.target sees.pair.target reached leads);
       })
 
   pub modules_of_build : AreModules targets (map (λ (it : BuildDocument). it.pair) documents)
   modules_of_build =
-      let are = of_build.are in
-      subst (AreModules targets) (sym (ap (map (λ (it : BuildDocument). it.pair)) are.are ∙ own_pairs space are.pairs))
+      subst (AreModules targets) (sym (ap (map (λ (it : BuildDocument). it.pair)) are.are ∙ own_pairs build.space are.pairs))
       (record {
         within = λ k d h. (let p = are.each k d h in slice_get_within (pairs_of targets) (get_or are.pairs k d) p.pair p.there);
         distinct = distinct_rising are.pairs are.ordered;

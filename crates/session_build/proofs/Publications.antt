@@ -1,5 +1,5 @@
 -- What a client shows once publications were written as messages.
-use Rattle.std.proofs.Common.{◌≡◌, ◌≢◌, ◌+◌, ◌<◌, ◌≤◌, ◌++◌, ◌||◌, ◌&&◌, ℕ, List, [], ◌∷◌, length, get_or, take, map, Bool, true, false, Option, Some, None, refl, sym, ap, subst, ◌∙◌, arith, length-append, true≢false}
+use Rattle.std.proofs.Common.{◌≡◌, ◌≢◌, lit≤, ◌<◌, ◌≤◌, ◌++◌, ◌||◌, ◌&&◌, ℕ, List, [], ◌∷◌, length, get_or, take, map, Bool, true, false, Option, Some, None, refl, sym, ap, subst, ◌∙◌, arith, true≢false}
 use Rattle.std.specs.Prelude.{codes, if◌then◌else◌}
 use Rattle.std.specs.List.{All, AllPairs, Contains, list_any}
 use Rattle.std.specs.Str.{bytes_eq}
@@ -9,9 +9,7 @@ use Rattle.std.proofs.lemmas.List.Folds.{list_any-append}
 use Rattle.std.proofs.lemmas.List.Sums.{fold-append}
 use Rattle.std.proofs.lemmas.Slice.Eq.{bytes_eq-Decides}
 use Rattle.std.specs.Option.{IfSome}
-use Rattle.serde_json.specs.Data.{Data, no_members}
-use Rattle.serde_json.specs.Written.{compact_text, members_text, has_float}
-use Rattle.serde_json.proofs.OnLiterals.{serde_json_on_literals}
+use Rattle.serde_json.specs.Written.{compact_text, has_float}
 use Rattle.bsp_records.specs.Diagnostics.{publish_diagnostics_params_data}
 use Rattle.json_shape.specs.Shapes.{IsTextWithin}
 use Rattle.ob_text.specs.Ascii.{IsWithin}
@@ -27,8 +25,9 @@ use Rattle.ob_text.specs.Code.{severity_of}
 use Rattle.ob_text.specs.declared.diagnostic.Diagnostic.{Diagnostic}
 use Rattle.build_rules.specs.Views.{HasList}
 use Rattle.build_rules.specs.World.{World}
-use Rattle.rpc_peer.specs.Said.{Said, notification, body_of}
+use Rattle.rpc_peer.specs.Said.{Said}
 use Rattle.session_law.specs.Builds.{Finding, IsFound, Publishes, PublishesSome, Shows, has_error, is_error_severity, none, one_more, publication_in, publication_said, published_if, shown_by, table_behind}
+use Rattle.session_law.proofs.NoticeLaws.{framed_notice}
 use Rattle.session_law.specs.IsFramed.{IsFramed}
 use Rattle.session_law.specs.declared.BuildDocument.{BuildDocument}
 use Rattle.session_build.specs.Publishing.{IsNotice, IsPublished, IsPublishedOne, finding_of}
@@ -62,7 +61,7 @@ table_same [] a b same = same
 table_same (m ∷ messages) a b same = table_same messages (shown_by m a) (shown_by m b) (if_same (publication_in m) a b same)
 
 -- what is published is the same where the tables show the same
-publishes_same : (a b : Table) (origin : Option (List ℕ)) (finding : Finding) (messages : List Said) → Same a b → Publishes a origin finding messages → Publishes b origin finding messages
+pub publishes_same : (a b : Table) (origin : Option (List ℕ)) (finding : Finding) (messages : List Said) → Same a b → Publishes a origin finding messages → Publishes b origin finding messages
 publishes_same a b origin finding messages same publishes = record {
   same = λ shows. publishes.same (same finding.document.key.document finding.document.key.target ∙ shows);
   other = λ differs. publishes.other (λ shows. differs (sym (same finding.document.key.document finding.document.key.target) ∙ shows));
@@ -70,11 +69,11 @@ publishes_same a b origin finding messages same publishes = record {
 
 -- ---- a further document
 
-abbrev IsApart : BuildDocument → BuildDocument → Type 0
+abbrev pub IsApart : BuildDocument → BuildDocument → Type 0
 IsApart it earlier = is_at it.key earlier.key.document earlier.key.target ≡ false
 
 -- what was shown of the earlier documents still is
-shows_on : (mid new : Table) (it : BuildDocument) (findings : List Finding) → ((document target : List ℕ) → is_at it.key document target ≡ false → new document target ≡ mid document target)
+pub shows_on : (mid new : Table) (it : BuildDocument) (findings : List Finding) → ((document target : List ℕ) → is_at it.key document target ≡ false → new document target ≡ mid document target)
     → All (λ (f : Finding). IsApart it f.document) findings → All (Shows mid) findings → All (Shows new) findings
 shows_on mid new it findings elsewhere apart shows k d h =
     elsewhere _ _ (apart k d h) ∙ shows k d h
@@ -86,7 +85,7 @@ documents_all P (f ∷ findings) documents is all =
     All-cons (λ (f : Finding). P f.document) f findings (All-head P f.document (map (λ (f : Finding). f.document) findings) all')
     (documents_all P findings (map (λ (f : Finding). f.document) findings) refl (All-tail P f.document (map (λ (f : Finding). f.document) findings) all'))
 
-at_itself : (a : TableKey) → is_at a a.document a.target ≡ true
+pub at_itself : (a : TableKey) → is_at a a.document a.target ≡ true
 at_itself a = ap (λ x. x && bytes_eq a.target a.target) ((bytes_eq-Decides a.document a.document).1 refl) ∙ (bytes_eq-Decides a.target a.target).1 refl
 
 -- a document that is apart from those that were published isn't one of them
@@ -147,7 +146,7 @@ one_published old mid new documents it origin w list before after failed one_fai
 key_same : (a b : TableKey) → a.document ≡ b.document → a.target ≡ b.target → a ≡ b
 key_same a b document target = rw (document, target) refl
 
-apart_at : (a b : TableKey) → (a ≡ b → ⊥) → is_at a b.document b.target ≡ false
+pub apart_at : (a b : TableKey) → (a ≡ b → ⊥) → is_at a b.document b.target ≡ false
 apart_at a b differs = by_tests (bytes_eq a.document b.document) (bytes_eq a.target b.target) refl refl
   where
     by_tests : (d t : Bool) → bytes_eq a.document b.document ≡ d → bytes_eq a.target b.target ≡ t → is_at a b.document b.target ≡ false
@@ -207,19 +206,9 @@ pub origin_within : (origin : Option (List ℕ)) (limit : ℕ) → IfSome origin
 origin_within None limit h = tt
 origin_within (Some text) limit h = h.within
 
-notice_short : (params : Data) → length (body_of (notification (codes "build/publishDiagnostics") (Some params))) ≤ 100 + length (compact_text params)
-unfolding body_of serde_json_on_literals
-notice_short params = let l = length-append (compact_text params) (members_text true no_members) in omega (arith, l)
-
 framed_publication : (p : PublishDiagnosticsParams) → has_float (publish_diagnostics_params_data p) ≡ false
     → length (compact_text (publish_diagnostics_params_data p)) ≤ publication_limit → IsFramed (publication_said p)
-unfolding lib.Utf8.encode
-framed_publication p exact short = record {
-  of_server = refl;
-  texts = (codes "build/publishDiagnostics", (refl, refl));
-  exact = rw exact refl;
-  fits = (let whole = notice_short (publish_diagnostics_params_data p) in omega (arith, whole, short));
-}
+framed_publication p exact short = framed_notice (codes "build/publishDiagnostics") (publish_diagnostics_params_data p) refl refl (lit≤ tt) exact short
 
 -- each publication that is short is a message of the server
 pub all_framed : (ps : List PublishDiagnosticsParams) → All IsShortPublication ps → All IsFramed (map publication_said ps)

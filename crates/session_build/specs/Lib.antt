@@ -1,3 +1,13 @@
-pub mod Outgoing
+pub mod Building
 pub mod Documents
+pub mod Ending
+pub mod Going
+pub mod Gone
+pub mod Outgoing
 pub mod Publishing
+pub mod Remembering
+pub mod Setting
+pub mod Stages
+pub mod Storing
+pub mod Tallies
+pub mod Telling

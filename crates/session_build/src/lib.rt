@@ -1,14 +1,25 @@
-//! A build: the documents that it is of, and what is published of their diagnostics.
+//! A build: the documents that it is of, and what is told of it: its tasks, and the lists that its checks find.
 //!
-//! It stands on `target_graph` for the documents, on `clean_build` for their diagnostics, on `task_stream` for what
-//! a client shows, and on `session_law`, which says what a build publishes. It knows one build, and nothing of other
-//! requests. Begin with `publish_all` and `specs/Publishing.antt`; what is published waits as `Outgoing` (`outgoing.rt`).
+//! It stands on `target_graph` for the documents, on `build_checks` and `check_cache` for the checks that are due, on
+//! `task_stream` for what a client shows, and on `session_law`, which says what a build tells. It knows one build and the
+//! checks that are kept, and nothing of other requests. Begin with `build` and `specs/Building.antt`, then `going.rt`; what
+//! is told waits as `Outgoing` (`outgoing.rt`), that of tasks is made in `tasks.rt`.
 #![tactic(auto)]
 
+mod building;
 mod documents;
+mod ending;
+mod going;
+mod kept;
 mod outgoing;
 mod publishing;
+mod setting;
+mod storing;
+mod tally;
+mod tasks;
+mod telling;
 
+pub use building::{BuildRequest, Built, build};
 pub use documents::{documents_of, paths_of};
+pub use kept::Kept;
 pub use outgoing::Outgoing;
-pub use publishing::{Published, publish_all};

@@ -1,68 +1,23 @@
-ghost use Rattle.std.specs.Prelude.{◌≡◌, ◌≢◌, ◌++◌, map, IfOk, IfSome, OnOk};
-ghost use Rattle.std.specs.List.{All, AllPairs, list_any};
-ghost use Rattle.ob_text.specs.Held.{IsReadable};
+ghost use Rattle.std.specs.Prelude.{◌≡◌, ◌++◌, map, IfOk, IfSome, OnOk};
+ghost use Rattle.std.specs.List.{list_any};
 ghost use Rattle.json_shape.specs.Shapes.{IsTextWithin};
 ghost use Rattle.bsp_records.specs.Limits.{origin_limit};
 ghost use Rattle.ob_text.specs.Code.{severity_of};
-ghost use Rattle.session_law.specs.Builds.{is_error_severity, publication_said, world_of};
-ghost use Rattle.session_build.specs.Documents.{AreOfBuild};
+ghost use Rattle.session_law.specs.Builds.{is_error_severity, publication_said};
 ghost use Rattle.session_build.specs.Outgoing.{outgoing_said};
-ghost use Rattle.session_build.specs.Publishing.{IsPublished, IsPublishedOne};
+ghost use Rattle.session_build.specs.Publishing.{IsPublishedOne};
 ghost use Rattle.task_stream.specs.Showing.{shows};
 
-use crate::documents::modules_of;
 use crate::outgoing::Outgoing;
-use clean_build::clean_build;
-use ob_text::{Diagnostic, NoMemory, Severity, Snapshot, Text};
+use ob_text::{Diagnostic, Name, NoMemory, Severity, Text};
 use session_law::BuildDocument;
 use std::alloc::Global;
 use std::collections::VecDeque;
 use std::sync::Arc;
-use target_graph::Workspace;
 use task_stream::{Piece, Shown};
 
-/// What is written of a build, and whether the clean build has an error.
-#[derive(Drop)]
-pub struct Published {
-    pub messages: VecDeque<Outgoing>,
-    pub failed: bool,
-}
-
-/// Publishes the list that the clean build finds for each document, by what was handed out, where a client shows
-/// another.
-pub fn publish_all(
-    alloc: Global,
-    workspace: &Workspace,
-    shown: &mut Shown,
-    documents: &[BuildDocument],
-    origin: &Option<Text>,
-    snapshot: &Snapshot,
-) -> Result<Published, NoMemory>
-    requires documents { AreOfBuild workspace.now documents.now }
-    requires distinct { AllPairs ◌≢◌ (map (λ document. document.key) documents.now) }
-    requires origin { IfSome origin.now (IsTextWithin origin_limit) }
-    requires texts { All (λ entry. IsReadable entry.1) snapshot.now.entries }
-    ensures published { IfOk result (λ p. IsPublished (shows shown.old) (shows shown.new) documents.now
-        origin.now (world_of workspace.now snapshot.now.entries) (map outgoing_said p.messages.items) p.failed) }
-{
-    let modules = modules_of(alloc, documents)?;
-    let found = clean_build(alloc, workspace, modules.as_slice(), snapshot)?;
-    let mut lists = found.into_iter();
-    let mut messages = VecDeque::new(alloc);
-    let mut failed = false;
-    let own = shared(alloc, origin)?;
-    for document in documents {
-        let Some(list) = lists.next() else {
-            unreachable!()
-        };
-        let has_error = publish_one(shown, document, &own, list, &mut messages)?;
-        failed = failed || has_error;
-    }
-    Ok(Published { messages, failed })
-}
-
 /// An `originId` that what is published shares.
-fn shared(alloc: Global, origin: &Option<Text>) -> Result<Arc<Option<Text>>, NoMemory>
+pub(crate) fn shared(alloc: Global, origin: &Option<Text>) -> Result<Arc<Option<Text>>, NoMemory>
     ensures { IfOk result (λ shared. shared.value ≡ origin.now) }
 {
     let own = match origin {
@@ -72,8 +27,40 @@ fn shared(alloc: Global, origin: &Option<Text>) -> Result<Arc<Option<Text>>, NoM
     Ok(Arc::new(alloc, own)?)
 }
 
+/// An equal list of its own.
+pub(crate) fn copy_of(alloc: Global, list: &[Diagnostic]) -> Result<Vec<Diagnostic>, NoMemory>
+    ensures { IfOk result (λ own. own.items ≡ list.now) }
+{
+    let mut own = Vec::new(alloc);
+    for diagnostic in list {
+        own.push(copy_of_one(alloc, diagnostic)?)?;
+    }
+    Ok(own)
+}
+
+fn copy_of_one(alloc: Global, diagnostic: &Diagnostic) -> Result<Diagnostic, NoMemory>
+    ensures { IfOk result (λ own. own ≡ diagnostic.now) }
+{
+    let name = copy_of_name(alloc, &diagnostic.name)?;
+    Ok(Diagnostic {
+        span: diagnostic.span,
+        range: diagnostic.range,
+        code: diagnostic.code,
+        name,
+    })
+}
+
+fn copy_of_name(alloc: Global, name: &Option<Name>) -> Result<Option<Name>, NoMemory>
+    ensures { IfOk result (λ own. own ≡ name.now) }
+{
+    match name {
+        Some(name) => Ok(Some(name.copy(alloc)?)),
+        None => Ok(None),
+    }
+}
+
 /// Publishes the list of one document, where a client shows another, and tells whether it has an error.
-fn publish_one(
+pub(crate) fn publish_one(
     shown: &mut Shown,
     document: &BuildDocument,
     origin: &Arc<Option<Text>>,
@@ -90,7 +77,7 @@ fn publish_one(
     Ok(failed)
 }
 
-fn has_error(list: &[Diagnostic]) -> bool
+pub(crate) fn has_error(list: &[Diagnostic]) -> bool
     ensures { result ≡ list_any (λ diagnostic. is_error_severity (severity_of diagnostic.code))
         list.now }
 {

@@ -1,8 +1,10 @@
 pub mod Framing
 pub mod Judged
+pub mod Opening
 pub mod Owing
 pub mod Publications
 pub mod Serving
 pub mod StandingLaws
 pub mod Steps
+pub mod Telling
 pub mod Writes

@@ -1,5 +1,5 @@
 -- What the core does with a request is what the request is owed.
-use Rattle.std.proofs.Common.{◌≡◌, Option, ap, subst, sym}
+use Rattle.std.proofs.Common.{◌≡◌, Option, None, ap, subst, sym}
 use Rattle.rpc_peer.specs.declared.message.Id.{Id}
 use Rattle.rpc_peer.specs.Said.{IsId}
 use Rattle.session_law.specs.Methods.{Verdict, asking, opening, queued, building, built, answering, closing, refusal, Call, due_in, taken_in}
@@ -26,8 +26,8 @@ module _ (old new : Core) (id : Id) (v : Verdict) (named : IsId id) where
   pub serves_answer : (answer : Answer) → Fits v answer → IsSaid answer → Answers old new id answer → ServesAs old new id (due_in old.workspace v)
   serves_answer answer fits short does = record { named = named; deed = answers_by answer; fits = (fits_due old.workspace v answer fits, short); does = does }
 
-  pub serves_opening : (root : List ℕ) → v ≡ asking root → Asks old new id root → ServesAs old new id (due_in old.workspace v)
-  serves_opening root is does = record { named = named; deed = asks_at root; fits = ap (due_in old.workspace) is; does = does }
+  pub serves_opening : (root : List ℕ) → v ≡ asking root → old.workspace ≡ None → Asks old new id root → ServesAs old new id (due_in old.workspace v)
+  serves_opening root is first does = record { named = named; deed = asks_at root; fits = (ap (due_in old.workspace) is, first); does = does }
 
   pub serves_queued : (call : Call) → v ≡ queued call → ServesAs old new id (taken_in old.workspace call) → ServesAs old new id (due_in old.workspace v)
   serves_queued call is serves = subst (ServesAs old new id) (sym (ap (due_in old.workspace) is)) serves

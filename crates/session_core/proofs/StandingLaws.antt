@@ -66,7 +66,7 @@ known core order quiet alive stands =
 -- nothing is owed in an order of a core for which nothing waits
 pub settled : (core : Core) (order : List Event) → IsFree core → Knows (state_of core) order → IsSettled order
 settled core order free knows =
-    record { requests = subst (λ awaiting. AreOpen (open_after order) core.workspace (asked_by core.workspace awaiting)) free knows.requests_are; nulls = knows.nulls_are }
+    record { requests = subst (λ awaiting. AreOpen (open_after order) core.workspace core.taken (asked_by core.workspace awaiting)) free knows.requests_are; nulls = knows.nulls_are }
 
 -- where nothing is owed, nothing is owed at once
 pub caught_up : (now : Now) → now.requests ≡ [] → now.nulls ≡ [] → IsCaughtUp now

@@ -20,6 +20,7 @@ use Rattle.session_law.specs.RefusesExactly.{IsGranted, IsRefused}
 use Rattle.session_law.specs.Requests.{Active, Asked, active_as, active_of, first_up, owed_to}
 use Rattle.session_law.specs.ShowsCleanBuild.{PublishesNext, ShowsAll, ShowsFor}
 use Rattle.session_law.specs.TakesUpInOrder.{AnswersBuild, AnswersFor}
+use Rattle.session_law.specs.TasksInOrder.{HasToldAll, TellsFor, TellsNext}
 use Rattle.session_core.specs.Acting.{answer_unread}
 use Rattle.session_core.specs.Standing.{IsOnly}
 use Rattle.target_graph.specs.Workspace.{Space}
@@ -38,6 +39,11 @@ same_id_refl (Text t) = same_text t
 if_so : (b : Bool) (A : Type 0) → A → If b A
 if_so true A a = a
 if_so false A a = tt
+
+-- a claim holds where its test does
+if_then : (b : Bool) (A : Type 0) → (b ≡ true → A) → If b A
+if_then true A a = a refl
+if_then false A a = tt
 
 -- being taken up leads to a build or to a refusal
 abbrev pub is_up : Verdict → Bool
@@ -85,11 +91,11 @@ silent (Some active) m is = tt
 
 -- ---- the responses to a request that isn't a build
 
-module _ (now : Now) (id : Id) (v : Verdict) (only : IsOnly now.requests now.force id v) where
+module _ (now : Now) (number : ℕ) (id : Id) (v : Verdict) (only : IsOnly now.requests now.force number id v) where
   abbrev asked : Asked
-  asked = record { id = id; number = only.number; verdict = only.judged; cancelled = false }
+  asked = record { id = id; number = number; verdict = only.judged; cancelled = false }
 
-  none_active : is_built v ≡ false → active_of now.requests ≡ None
+  pub none_active : is_built v ≡ false → active_of now.requests ≡ None
   none_active other = ap active_of only.are ∙ unbuilt asked now.force only.judged v only.stands other
 
   owed_so : owed_to id (first_up now.force now.requests) ≡ Some v
@@ -105,6 +111,7 @@ module _ (now : Now) (id : Id) (v : Verdict) (only : IsOnly now.requests now.for
         in_order = subst (AnswersFor (result (Some id) value)) (sym none) tt;
         in_builds = silent (active_of now.requests) (result (Some id) value) refl;
         shows = subst (λ active. ShowsFor (result (Some id) value) active now) (sym none) tt;
+        tasks = subst (λ active. TellsFor (result (Some id) value) active now) (sym none) tt;
       }
 
   pub allowed_refusal : (code : ℤ) (text : List ℕ) → IsRefused (Some v) code text → IsFramed (failure (Some id) code text) → WriteAllowed now (failure (Some id) code text)
@@ -116,6 +123,7 @@ module _ (now : Now) (id : Id) (v : Verdict) (only : IsOnly now.requests now.for
         in_order = tt;
         in_builds = silent (active_of now.requests) (failure (Some id) code text) refl;
         shows = tt;
+        tasks = tt;
       }
 
 -- ---- the response with the id null
@@ -129,22 +137,24 @@ allowed_null now code are framed =
       in_order = tt;
       in_builds = silent (active_of now.requests) (answer_unread code) refl;
       shows = tt;
+      tasks = tt;
     }
 
 -- ---- what a build writes
 
-module _ (now : Now) (id : Id) (build : Build) (entries : Entries) (only : IsOnly now.requests now.force id (built build entries)) where
+module _ (now : Now) (number : ℕ) (id : Id) (build : Build) (entries : Entries) (only : IsOnly now.requests now.force number id (built build entries)) where
   abbrev pub active_in : Active
-  active_in = record { id = id; number = only.number; build = build; entries = entries }
+  active_in = record { id = id; number = number; build = build; entries = entries }
 
-  is_active : active_of now.requests ≡ Some active_in
+  pub is_active : active_of now.requests ≡ Some active_in
   is_active =
       ap active_of only.are
-      ∙ ap (active_as (record { id = id; number = only.number; verdict = only.judged; cancelled = false })) (judged_so now.force only.judged (built build entries) only.stands refl)
+      ∙ ap (active_as (record { id = id; number = number; verdict = only.judged; cancelled = false })) (judged_so now.force only.judged (built build entries) only.stands refl)
 
-  pub allowed_publication : (method : List ℕ) (params : Option Data) → PublishesNext active_in now (notification method params) → IsFramed (notification method params)
+  pub allowed_notice : (method : List ℕ) (params : Option Data) → TellsNext active_in now (notification method params)
+      → (is_publication (notification method params) ≡ true → PublishesNext active_in now (notification method params)) → IsFramed (notification method params)
       → WriteAllowed now (notification method params)
-  allowed_publication method params next framed =
+  allowed_notice method params tells next framed =
       let m = notification method params in
       record {
         framed = framed;
@@ -152,17 +162,20 @@ module _ (now : Now) (id : Id) (build : Build) (entries : Entries) (only : IsOnl
         exact = tt;
         in_order = tt;
         in_builds = subst (λ active. PublishesFor active m) (sym is_active) tt;
-        shows = subst (λ active. ShowsFor m active now) (sym is_active) (if_so (is_publication m) (PublishesNext active_in now m) next);
+        shows = subst (λ active. ShowsFor m active now) (sym is_active) (if_then (is_publication m) (PublishesNext active_in now m) next);
+        tasks = subst (λ active. TellsFor m active now) (sym is_active) tells;
       }
 
-  pub allowed_build : (value : Data) → AnswersBuild active_in value → ShowsAll active_in now.table → IsFramed (result (Some id) value) → WriteAllowed now (result (Some id) value)
-  allowed_build value answers shows framed =
+  pub allowed_build : (value : Data) → AnswersBuild active_in value → ShowsAll active_in now.table → HasToldAll active_in now → IsFramed (result (Some id) value)
+      → WriteAllowed now (result (Some id) value)
+  allowed_build value answers shows told framed =
       let m = result (Some id) value in
       record {
         framed = framed;
         once = rw (only.are, same_id_refl id) refl;
-        exact = subst (λ o. IsGranted o value) (sym (owed_so now id (built build entries) only)) tt;
+        exact = subst (λ o. IsGranted o value) (sym (owed_so now number id (built build entries) only)) tt;
         in_order = subst (AnswersFor m) (sym is_active) (if_so (same_id id id) (AnswersBuild active_in value) answers);
         in_builds = silent (active_of now.requests) m refl;
         shows = subst (λ active. ShowsFor m active now) (sym is_active) (if_so (same_id id id) (ShowsAll active_in now.table) shows);
+        tasks = subst (λ active. TellsFor m active now) (sym is_active) (if_so (same_id id id) (HasToldAll active_in now) told);
       }

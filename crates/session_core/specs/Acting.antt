@@ -1,5 +1,5 @@
 -- What one step of a core does to what it keeps.
-use Rattle.std.specs.Prelude.{◌≡◌, ◌++◌, ℕ, ℤ, List, [], ◌∷◌, map, codes, Bool, true, Option, Some, None, if◌then◌else◌, Result, Ok, Err}
+use Rattle.std.specs.Prelude.{◌≡◌, ◌+◌, ◌++◌, ℕ, ℤ, List, [], ◌∷◌, map, codes, Bool, true, Option, Some, None, if◌then◌else◌, Result, Ok, Err}
 use Rattle.std.specs.Option.{IfSome}
 use Rattle.std.specs.Str.{bytes_eq}
 use Rattle.json_shape.specs.Shapes.{IsTextWithin}
@@ -8,18 +8,20 @@ use Rattle.ob_text.specs.declared.held.Snapshot.{Snapshot}
 use Rattle.rpc_peer.specs.declared.message.Id.{Id}
 use Rattle.rpc_peer.specs.Said.{Said, request, notification, result, failure, IsId}
 use Rattle.rpc_peer.specs.Meaning.{parse_error}
-use Rattle.session_build.specs.Publishing.{IsPublished}
+use Rattle.session_build.specs.Building.{IsBuilt}
+use Rattle.session_build.specs.Remembering.{Remembers}
 use Rattle.session_build.specs.Outgoing.{outgoing_said}
-use Rattle.session_law.specs.Builds.{build_said, world_of}
+use Rattle.session_law.specs.Builds.{build_said}
+use Rattle.session_law.specs.History.{Told}
 use Rattle.session_law.specs.IsFramed.{IsFramed}
 use Rattle.session_law.specs.Methods.{Verdict, asking, unreadable, verdict, due_in, is_named, null_message}
 use Rattle.ob_text.specs.Once.{each_once}
 use Rattle.ob_text.specs.Held.{Entries}
-use Rattle.session_law.specs.Requests.{handed_over}
+use Rattle.session_law.specs.Requests.{Active, handed_over}
 use Rattle.session_law.specs.declared.InputEnd.{InputEnd}
 use Rattle.session_law.specs.declared.InputEnd.TheVariants.{Border, Damaged, Failed}
 use Rattle.session_core.specs.Judging.{Fits, IsPlanOf, IsSaid, answer_to}
-use Rattle.session_core.specs.Plans.{Plan}
+use Rattle.session_core.specs.Plans.{Plan, build_in}
 use Rattle.session_core.specs.State.{Base, State, base_of, state_of, handed_of, workspace_need}
 use Rattle.session_core.specs.declared.awaiting.Awaiting.{Awaiting}
 use Rattle.session_core.specs.declared.awaiting.Awaiting.TheVariants as awaits
@@ -39,6 +41,10 @@ pub record Steps (old new : Core) (state : State) (messages : List Said) : Type 
   pub queued : map outgoing_said new.out.items ≡ map outgoing_said old.out.items ++ messages
   pub state_is : state_of new ≡ state
   pub alive : new.dead ≡ old.dead
+
+-- the core counts one more body
+abbrev pub counted : Core → Core
+counted core = record core { taken = core.taken + 1 }
 
 -- what is kept once a request was given this answer
 abbrev pub base_with : Base → Answer → Base
@@ -75,7 +81,7 @@ pub data Deed : Type 0 where
 -- it is what the request is owed
 abbrev pub DeedFits : Option Space → Verdict → Deed → Type 0
 DeedFits force v (answers_by answer) = Fits v answer × IsSaid answer
-DeedFits force v (asks_at root) = v ≡ asking root
+DeedFits force v (asks_at root) = (v ≡ asking root) × (force ≡ None)
 DeedFits force v (plans_by plan) = IsPlanOf force v plan
 
 abbrev pub Does : Core → Core → Id → Deed → Type 0
@@ -121,15 +127,20 @@ pub record AnswersAs (old new : Core) (id : Id) (v : Verdict) : Type 0 where
   pub short : IsSaid answer
   pub answers : Steps old new (answered (record (state_of old) { awaiting = None }) answer) (answer_to id answer ∷ [])
 
--- the core publishes what the build finds in the workspace in force, by what was handed out, and answers it
+-- the build that the law speaks of, once it was handed its documents
+abbrev pub active_of_plan : Id → ℕ → Space → Plan → Entries → Active
+active_of_plan id number space plan entries = record { id = id; number = number; build = build_in space plan; entries = entries }
+
+-- the core tells what the build does in the workspace in force, by what was handed out, and answers it
 pub record Builds (old new : Core) (id : Id) (plan : Plan) (entries : Entries) : Type 0 where
   pub space : Space
   pub in_force : old.workspace ≡ Some space
   pub short : IfSome plan.origin (IsTextWithin origin_limit)
   pub messages : List Said
   pub failed : Bool
-  pub published : IsPublished (shows old.shown) (shows new.shown) plan.documents plan.origin (world_of space entries) messages failed
-  pub steps : Steps old new (record (state_of old) { base = record (base_of old) { table = shows new.shown }; awaiting = None }) (messages ++ build_said id plan.origin failed ∷ [])
+  pub built : (builds : List Told) → Remembers space builds old.kept
+      → IsBuilt (active_of_plan id old.taken space plan entries) builds (shows old.shown) (shows new.shown) new.kept messages failed
+  pub steps : Steps old new (record (state_of old) { base = record (base_of old) { table = shows new.shown; kept = new.kept }; awaiting = None }) (messages ++ build_said id plan.origin failed ∷ [])
 
 -- the core acts on the answer of the tree, for the build that waits for it
 abbrev pub BuildsOn : Core → Core → Id → Plan → Option Entries → Type 0

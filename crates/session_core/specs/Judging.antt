@@ -1,5 +1,6 @@
 -- What the core finds a request to be owed, in the words of the law.
-use Rattle.std.specs.Prelude.{◌≡◌, ◌≤◌, ◌++◌, ℕ, ℤ, List, length, codes, false, Option, Some, IsSome, Result, Ok, Err, Vec}
+use Rattle.std.specs.Prelude.{◌≡◌, ◌<◌, ◌≤◌, ◌++◌, ℕ, ℤ, List, length, codes, false, Option, Some, None, IsSome, Result, Ok, Err, Vec}
+use Rattle.std.specs.List.{All}
 use Rattle.std.specs.declared.alloc.Global.{Global}
 use Rattle.ob_text.specs.Ascii.{IsGraphicWithin, IsPlain}
 use Rattle.rpc_peer.specs.Meaning.{invalid_request}
@@ -58,18 +59,23 @@ Fits v answer = ⊥
 abbrev pub queued_call : Queued → Call
 queued_call (Build params) = to_build params.targets params.origin_id
 
--- What a request is owed at its take. One of the queue finds a workspace in force.
+-- What a request is owed at its take. One of the queue finds a workspace in force, and an initialize that is accepted none.
 abbrev pub Judges : Option Space → Verdict → Owed → Type 0
 Judges force v (owing.Answer answer) = Fits v answer
-Judges force v (owing.Opening root) = v ≡ asking root
+Judges force v (owing.Opening root) = (v ≡ asking root) × (force ≡ None)
 Judges force v (owing.Queued call) = (v ≡ queued (queued_call call)) × IsSome force
 
--- it is a build of the workspace in force, and these are its documents
+-- it is of targets of this workspace, and these are its documents
+pub record IsPlanIn (space : Space) (plan : Plan) : Type 0 where
+  pub asked : All (λ target. target < length space.targets) plan.asked
+  pub documents : AreDocuments (build_in space plan) plan.documents
+
+-- it is a build of the workspace in force
 pub record IsPlanOf (force : Option Space) (v : Verdict) (plan : Plan) : Type 0 where
   pub space : Space
   pub in_force : force ≡ Some space
   pub is : v ≡ building (build_in space plan)
-  pub documents : AreDocuments (build_in space plan) plan.documents
+  pub within : IsPlanIn space plan
 
 -- what a request of the queue is owed as it is taken up
 abbrev pub TakesUp : Option Space → Verdict → TakenUp → Type 0

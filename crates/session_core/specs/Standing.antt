@@ -4,13 +4,16 @@ use Rattle.ob_text.specs.declared.held.Snapshot.{Snapshot}
 use Rattle.rpc_peer.specs.Said.{Said, IsId}
 use Rattle.rpc_peer.specs.declared.message.Id.{Id}
 use Rattle.session_build.specs.Outgoing.{outgoing_said}
+use Rattle.session_build.specs.Remembering.{IsEmpty, Remembers}
+use Rattle.session_build.specs.declared.kept.Kept.{Kept}
 use Rattle.session_law.specs.Lawful.{Lawful, AreHeld}
 use Rattle.session_law.specs.Order.{Event, write}
-use Rattle.session_law.specs.Builds.{AreDocuments}
+use Rattle.session_law.specs.History.{Told}
 use Rattle.session_law.specs.Methods.{Verdict, due_in}
 use Rattle.session_law.specs.Past.{after}
 use Rattle.session_law.specs.Requests.{Asked, Wants}
-use Rattle.session_core.specs.Plans.{Plan, build_in}
+use Rattle.session_core.specs.Judging.{IsPlanIn}
+use Rattle.session_core.specs.Plans.{Plan}
 use Rattle.session_core.specs.State.{Standing, State, state_of, asked_by, needed_paths, handed_of}
 use Rattle.session_core.specs.declared.awaiting.Awaiting.TheVariants as awaits
 use Rattle.target_graph.specs.Workspace.{Space}
@@ -23,9 +26,8 @@ abbrev pub onto : List Said → List Event → List Event
 onto [] order = order
 onto (m ∷ messages) order = onto messages (write m ∷ order)
 
--- One request is open. It isn't cancelled, and at the head of the queue it is owed this.
-pub record IsOnly (requests : List Asked) (force : Option Space) (id : Id) (v : Verdict) : Type 0 where
-  pub number : ℕ
+-- One request is open, the message of this ordinal. It isn't cancelled, and at the head of the queue it is owed this.
+pub record IsOnly (requests : List Asked) (force : Option Space) (number : ℕ) (id : Id) (v : Verdict) : Type 0 where
   -- what it was owed as it was taken, or as the tree answered
   pub judged : Verdict
   pub are : requests ≡ record { id = id; number = number; verdict = judged; cancelled = false } ∷ []
@@ -33,9 +35,9 @@ pub record IsOnly (requests : List Asked) (force : Option Space) (id : Id) (v : 
   pub named : IsId id
 
 -- these are open: one that stands so, or none
-abbrev pub AreOpen : List Asked → Option Space → Option Standing → Type 0
-AreOpen requests force None = requests ≡ []
-AreOpen requests force (Some standing) = IsOnly requests force standing.id standing.verdict
+abbrev pub AreOpen : List Asked → Option Space → ℕ → Option Standing → Type 0
+AreOpen requests force number None = requests ≡ []
+AreOpen requests force number (Some standing) = IsOnly requests force number standing.id standing.verdict
 
 -- the request wants these paths
 abbrev pub WantsOf : Option Standing → List (List ℕ) → Type 0
@@ -48,13 +50,18 @@ NeedFits need force awaiting = IfSome need (λ n. WantsOf (asked_by force awaiti
 
 abbrev pub AreIn : Option Space → Plan → Type 0
 AreIn None plan = ⊥
-AreIn (Some space) plan = AreDocuments (build_in space plan) plan.documents
+AreIn (Some space) plan = IsPlanIn space plan
 
--- a build that waits has its documents, by the workspace in force
+-- A build that waits has its documents, by the workspace in force. An initialize waits where none is in force.
 abbrev pub PlanFits : Option Space → Option Awaiting → Type 0
 PlanFits force None = Unit {0}
-PlanFits force (Some (awaits.Opening id root)) = Unit {0}
+PlanFits force (Some (awaits.Opening id root)) = force ≡ None
 PlanFits force (Some (awaits.Building id plan)) = AreIn force plan
+
+-- the checks that are kept are of the builds that were answered; before a workspace is in force there are none
+abbrev pub RemembersIn : Option Space → List Told → Kept → Type 0
+RemembersIn None builds kept = (builds ≡ []) × IsEmpty kept
+RemembersIn (Some space) builds kept = Remembers space builds kept
 
 -- what a core that found memory so far knows of an order
 pub record Knows (state : State) (order : List Event) : Type 0 where
@@ -62,7 +69,10 @@ pub record Knows (state : State) (order : List Event) : Type 0 where
   pub closed_is : (after order).closed ≡ state.base.closed
   pub table_is : (after order).table ≡ state.base.table
   pub status_is : (after order).status ≡ state.status
-  pub requests_are : AreOpen (after order).requests state.base.force (asked_by state.base.force state.awaiting)
+  pub taken_is : (after order).taken ≡ state.base.taken
+  -- no body was taken behind that of the request that waits
+  pub requests_are : AreOpen (after order).requests state.base.force state.base.taken (asked_by state.base.force state.awaiting)
+  pub builds_are : RemembersIn state.base.force (after order).builds state.base.kept
   pub nulls_are : (after order).nulls ≡ []
   pub need_is : NeedFits state.need state.base.force state.awaiting
   pub plan_is : PlanFits state.base.force state.awaiting

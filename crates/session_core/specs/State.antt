@@ -3,6 +3,7 @@ use Rattle.std.specs.Prelude.{ℕ, List, [], ◌∷◌, Bool, Option, None, Some
 use Rattle.bsp_records.specs.Table.{Table}
 use Rattle.ob_text.specs.declared.held.Snapshot.{Snapshot}
 use Rattle.rpc_peer.specs.declared.message.Id.{Id}
+use Rattle.session_build.specs.declared.kept.Kept.{Kept}
 use Rattle.session_law.specs.Methods.{Verdict, asking, building, workspace_path}
 use Rattle.ob_text.specs.Held.{Entries}
 use Rattle.session_core.specs.Plans.{Plan, build_in}
@@ -21,6 +22,10 @@ pub record Base : Type 0 where
   pub closed : Bool
   -- what a client shows
   pub table : Table
+  -- how many bodies were taken
+  pub taken : ℕ
+  -- the checks that are kept
+  pub kept : Kept
 
 pub record State : Type 0 where
   pub base : Base
@@ -29,7 +34,7 @@ pub record State : Type 0 where
   pub need : Option Need
 
 abbrev pub base_of : Core → Base
-base_of core = record { force = core.workspace; closed = core.closed; table = shows core.shown }
+base_of core = record { force = core.workspace; closed = core.closed; table = shows core.shown; taken = core.taken; kept = core.kept }
 
 abbrev pub state_of : Core → State
 state_of core = record { base = base_of core; status = core.status; awaiting = core.awaiting; need = core.need }

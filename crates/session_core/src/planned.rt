@@ -40,6 +40,13 @@ impl Planned {
         }
     }
 
+    /// The targets asked for, by their index in the workspace file.
+    pub fn asked(&self) -> &[u32]
+        ensures { result.now ≡ self.now.asked }
+    {
+        self.asked.as_slice()
+    }
+
     /// Its documents, in order.
     pub fn documents(&self) -> &[BuildDocument]
         ensures documents { result.now ≡ self.now.documents }

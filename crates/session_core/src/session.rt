@@ -12,7 +12,7 @@ use crate::verdicts::{Answer, Owed, Queued, Reason, TakenUp};
 use ob_text::{Held, NoMemory, Snapshot, Text};
 use rpc_peer::{Id, Message, Refusal, read_message};
 use serde_json::Value;
-use session_build::{Outgoing, Published, paths_of, publish_all};
+use session_build::{BuildRequest, Built, Kept, Outgoing, build, paths_of};
 use session_law::InputEnd;
 use std::alloc::Global;
 use std::collections::VecDeque;
@@ -35,6 +35,10 @@ pub struct Core {
     status: Option<u8>,
     // What a client shows.
     shown: Shown,
+    // How many bodies were taken.
+    taken: u64,
+    // The checks that are kept from build to build.
+    kept: Kept,
     // The request that waits for what the tree holds.
     awaiting: Option<Awaiting>,
     // What the tree is to be asked for it, until that is taken.
@@ -50,7 +54,7 @@ impl Core {
     ghost use Rattle.session_law.specs.IsFramed.{IsFramed};
     ghost use Rattle.session_law.specs.Methods.{asking, due_in, taken_in, unreadable, verdict};
     ghost use Rattle.session_law.specs.Order.{Event, take, ends, hand, write};
-    ghost use Rattle.session_core.specs.Acting.{Acts, ActsOnHand, Answers, AnswersUnread, Asks, Builds, BuildsOn, Ends, Plans, ServesAs, AnswersAs, Steps, exited_by};
+    ghost use Rattle.session_core.specs.Acting.{Acts, ActsOnHand, Answers, AnswersUnread, Asks, Builds, BuildsOn, Ends, Plans, ServesAs, AnswersAs, Steps, counted, exited_by};
     ghost use Rattle.session_core.specs.Judging.{HasQueuedTexts, queued_call};
     ghost use Rattle.session_core.specs.Reading.{AreReadable};
     ghost use Rattle.session_core.specs.Standing.{StandsFor, AreIn, Awaits, PlanFits, Suits, IsFree, NeedsNothing, NeedsWhatItAwaits, IsQuiet, IsAlive, status_of, left_to_write};
@@ -73,6 +77,8 @@ impl Core {
             closed: false,
             status: None,
             shown: Shown::new(alloc),
+            taken: 0,
+            kept: Kept::new(alloc),
             awaiting: None,
             need: None,
             dead: false,
@@ -177,17 +183,32 @@ impl Core {
     }
 
     fn act(&mut self, body: &[u8]) -> Result<(), NoMemory>
-        ensures ok { OnOk result (Acts self.old self.new (meaning body.now)) }
+        ensures ok { OnOk result (Acts (counted self.old) self.new (meaning body.now)) }
         ensures found { OnOk result (IsAlive self.old) }
         ensures err { OnErr result (self.new.out.items ≡ self.old.out.items) }
     {
         if self.dead {
             return Err(NoMemory);
         }
+        self.count()?;
         match read_message(self.alloc, body) {
             Ok(message) => self.act_on(message),
             Err(Refusal::Coded(code)) => self.refuse(code),
             Err(Refusal::NoMemory) => Err(NoMemory),
+        }
+    }
+
+    // Counts a body. Where no number is left for it there is no memory.
+    fn count(&mut self) -> Result<(), NoMemory>
+        ensures ok { OnOk result (self.new ≡ counted self.old) }
+        ensures err { OnErr result (self.new.out.items ≡ self.old.out.items) }
+    {
+        match self.taken.checked_add(1) {
+            Some(taken) => {
+                self.taken = taken;
+                Ok(())
+            }
+            None => Err(NoMemory),
         }
     }
 
@@ -350,7 +371,7 @@ impl Core {
         ensures err { OnErr result (self.new.out.items ≡ self.old.out.items) }
     {
         match got {
-            Some(snapshot) => self.publish(id, &planned, &snapshot),
+            Some(snapshot) => self.tell(id, &planned, &snapshot),
             None => self.refuse_unread(id),
         }
     }
@@ -367,8 +388,8 @@ impl Core {
         self.answer(id, Answer::Refused(Reason::InternalError))
     }
 
-    // Publishes what the build finds, and answers it.
-    fn publish(&mut self, id: Id, planned: &Planned, snapshot: &Snapshot) -> Result<(), NoMemory>
+    // Tells what the build does, and answers it.
+    fn tell(&mut self, id: Id, planned: &Planned, snapshot: &Snapshot) -> Result<(), NoMemory>
         requires quiet { IsQuiet self.old }
         requires free { IsFree self.old }
         requires planned { AreIn self.old.workspace planned.now }
@@ -382,17 +403,22 @@ impl Core {
         let Some(workspace) = &self.workspace else {
             unreachable!()
         };
-        let (documents, origin) = (planned.documents(), planned.origin());
-        let Published { messages, failed } = publish_all(
+        let request = BuildRequest {
+            number: self.taken,
+            asked: planned.asked(),
+            origin: planned.origin(),
+            documents: planned.documents(),
+        };
+        let Built { messages, failed } = build(
             self.alloc,
             workspace,
+            &mut self.kept,
             &mut self.shown,
-            documents,
-            origin,
+            &request,
             snapshot,
         )?;
         let mut messages = messages;
-        let answer = compiled(self.alloc, id, origin, failed)?;
+        let answer = compiled(self.alloc, id, planned.origin(), failed)?;
         messages.push_back(Outgoing::Message(answer))?;
         self.out = messages;
         Ok(())

@@ -14,6 +14,7 @@ use Rattle.session_law.specs.RefusesExactly.{RefusesExactly}
 use Rattle.session_law.specs.Requests.{WantedBy}
 use Rattle.session_law.specs.ShowsCleanBuild.{ShowsCleanBuild}
 use Rattle.session_law.specs.TakesUpInOrder.{TakesUpInOrder}
+use Rattle.session_law.specs.TasksInOrder.{TasksInOrder}
 use Rattle.session_law.specs.declared.InputEnd.{InputEnd}
 
 pub record WriteAllowed (now : Now) (m : Said) : Type 0 where
@@ -23,6 +24,7 @@ pub record WriteAllowed (now : Now) (m : Said) : Type 0 where
   pub in_order : TakesUpInOrder now m
   pub in_builds : PublishesInBuildsOnly now m
   pub shows : ShowsCleanBuild now m
+  pub tasks : TasksInOrder now m
 
 -- A body is taken once what was taken before it is answered as far as it is owed at once, and none behind the
 -- session's end.

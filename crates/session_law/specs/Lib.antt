@@ -2,6 +2,8 @@ pub mod AnswersAll
 pub mod AnswersAtOnce
 pub mod AnswersOnce
 pub mod Builds
+pub mod Course
+pub mod History
 pub mod If
 pub mod IsFramed
 pub mod Lawful
@@ -14,3 +16,5 @@ pub mod RefusesExactly
 pub mod Requests
 pub mod ShowsCleanBuild
 pub mod TakesUpInOrder
+pub mod Tasks
+pub mod TasksInOrder

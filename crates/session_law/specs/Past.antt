@@ -3,13 +3,15 @@ use Rattle.std.specs.Prelude.{◌||◌, ℕ, ℤ, suc, List, [], ◌∷◌, ◌+
 use Rattle.bsp_records.specs.Table.{Table, nothing_shown}
 use Rattle.ob_text.specs.declared.held.Held.{Held}
 use Rattle.rpc_peer.specs.Meaning.{meaning, invalid_request, parse_error}
+use Rattle.rpc_peer.specs.OpenIds.{same_id}
 use Rattle.rpc_peer.specs.Said.{Said, request, notification, result, failure}
 use Rattle.target_graph.specs.Faults.{file_targets}
 use Rattle.target_graph.specs.Workspace.{Space}
 use Rattle.session_law.specs.Builds.{shown_by}
+use Rattle.session_law.specs.History.{Told}
 use Rattle.session_law.specs.Methods.{Verdict, opening, is_named}
 use Rattle.session_law.specs.Order.{Event, take, ends, hand, write}
-use Rattle.session_law.specs.Requests.{Asked, all_marked, closed_by, first_up, granted_by, handed_by, is_closing, is_open, opened_by}
+use Rattle.session_law.specs.Requests.{Active, Asked, active_of, all_marked, closed_by, first_up, granted_by, handed_by, is_closing, is_open, opened_by}
 use Rattle.session_law.specs.declared.InputEnd.{InputEnd}
 use Rattle.session_law.specs.declared.InputEnd.TheVariants.{Border, Damaged, Failed}
 
@@ -56,6 +58,12 @@ end_status Border = 1
 end_status Damaged = 2
 end_status Failed = 3
 
+-- the builds that were answered, once this message is written where these notifications were
+abbrev pub builds_by : Said → Option Active → List Said → List Told → List Told
+builds_by (result (Some id) value) (Some active) notices builds =
+    if same_id id active.id then record { active = active; notices = notices } ∷ builds else builds
+builds_by m active notices builds = builds
+
 -- what a message is for the client beside the responses
 abbrev pub notice_in : Said → List Said
 notice_in (notification method params) = notification method params ∷ []
@@ -84,6 +92,8 @@ pub record Now : Type 0 where
   pub table_at_hand : Table
   -- the notifications that were written since then, the oldest first
   pub notices : List Said
+  -- the builds that were answered with a result, the newest first, each with what it told
+  pub builds : List Told
 
 abbrev pub at_start : Now
 at_start =
@@ -97,6 +107,7 @@ at_start =
       table = nothing_shown;
       table_at_hand = nothing_shown;
       notices = [];
+      builds = [];
     }
 
 -- the requests that are open, the first of them judged by the workspace in force
@@ -131,6 +142,7 @@ by_event (write m) now =
       nulls = nulls_behind m now.nulls;
       table = shown_by m now.table;
       notices = now.notices ++ notice_in m;
+      builds = builds_by m (active_of now.requests) now.notices now.builds;
     }
 
 -- what the session is behind these events

@@ -1,5 +1,5 @@
 //! What a lawful session is: the order of its events, and the sentences that each event must meet. The
-//! definitions stand in `specs/`; this crate has no calls.
+//! definitions stand in `specs/`, and laws of them in `proofs/`; this crate has no calls.
 //!
 //! It stands on the crates that say what a message, a record, a workspace and a clean build are. It knows the
 //! protocol and no code. Begin with `specs/Lawful.antt`, and read `specs/Order.antt`, `Past.antt` and

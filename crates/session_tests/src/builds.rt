@@ -104,12 +104,12 @@ const CYCLES: [Case<'static>; 3] = [
             (
                 OF_LIB,
                 &[
+                    ("lib", "B.Mod", &[]),
                     (
                         "lib",
                         "A.Mod",
                         &["0:17-0:18 2 unusedImport unused import: B"],
                     ),
-                    ("lib", "B.Mod", &[]),
                 ],
                 1,
             ),

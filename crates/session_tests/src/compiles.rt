@@ -1,4 +1,7 @@
-use crate::runs::{Files, Parts, expect_answers, tree};
+use crate::runs::{
+    CLOSED, Files, INITIALIZED, Parts, add_frame, expect_answers, expect_whole, session_of, tree,
+};
+use crate::told::add_told;
 use std::alloc::Global;
 use std::test::Fail;
 
@@ -179,19 +182,42 @@ fn bad_characters(alloc: Global) -> Result<Vec<u8>, Fail> {
     Ok(text)
 }
 
+const BEFORE_PIECES: &str = "
+start r2
+start r2.t1 app
+start r2.c1 r2.t1 A.Mod
+finish r2.c1 r2.t1 2
+";
+
+const BEHIND_PIECES: &str = "
+report r2.t1 app 250 0
+finish r2 2
+result 2 2
+";
+
+/// The publications of 250 bad characters, among what is told of their build.
+fn told_in_pieces(alloc: Global) -> Result<Vec<u8>, Fail> {
+    let mut output = Vec::from_slice(alloc, INITIALIZED)?;
+    add_told(alloc, BEFORE_PIECES, "", &mut output)?;
+    for (from, to, back) in [
+        (0, 100, PIECE_BACK_FIRST),
+        (100, 200, PIECE_BACK),
+        (200, 250, PIECE_BACK),
+    ] {
+        let piece = piece(alloc, from, to, back)?;
+        add_frame(alloc, piece.as_slice(), &mut output)?;
+    }
+    add_told(alloc, BEHIND_PIECES, "", &mut output)?;
+    output.extend_from_slice(CLOSED)?;
+    Ok(output)
+}
+
 #[test]
 fn publishes_a_long_list_in_pieces(rt: HostRuntime) -> Result<(), Fail> {
     let text = bad_characters(rt.alloc())?;
     let files: [(&[u8], &[u8]); 2] = [FILE_OF_APP, (b"A.Mod", text.as_slice())];
     let mut tree = tree(rt.alloc(), &files, &[], &[])?;
-    let first = piece(rt.alloc(), 0, 100, PIECE_BACK_FIRST)?;
-    let second = piece(rt.alloc(), 100, 200, PIECE_BACK)?;
-    let third = piece(rt.alloc(), 200, 250, PIECE_BACK)?;
-    let answers: [&[u8]; 4] = [
-        first.as_slice(),
-        second.as_slice(),
-        third.as_slice(),
-        FAILED_2,
-    ];
-    expect_answers(&rt, &mut tree, &[COMPILE_2], &answers)
+    let session = session_of(rt.alloc(), &[COMPILE_2])?;
+    let output = told_in_pieces(rt.alloc())?;
+    expect_whole(&rt, &mut tree, session, 0, output.as_slice())
 }

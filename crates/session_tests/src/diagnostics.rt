@@ -211,12 +211,12 @@ const PAIRS: [Case<'static>; 2] = [
         &[(
             OF_APP,
             &[
+                ("app", "B.Mod", &["0:17-0:18 1 noName unknown name: T"]),
                 (
                     "app",
                     "A.Mod",
                     &["0:17-0:18 1 importBroken imported module has errors: B"],
                 ),
-                ("app", "B.Mod", &["0:17-0:18 1 noName unknown name: T"]),
             ],
             2,
         )],

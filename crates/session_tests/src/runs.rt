@@ -189,11 +189,15 @@ fn run(
     run_from(alloc, &mut input, tree, fails)
 }
 
-fn expect_left(rt: &impl Abort, left: &Left, status: u8, taken: u64, output: &[u8], notes: &[u8]) {
+fn expect_end(rt: &impl Abort, left: &Left, status: u8, taken: u64, notes: &[u8]) {
     assert_eq!(rt; left.ended.status.code(), status);
     assert_eq!(rt; left.ended.taken, taken);
-    assert!(rt; left.output.given() == output, "other output");
     assert!(rt; left.notes.given() == notes, "other notes");
+}
+
+fn expect_left(rt: &impl Abort, left: &Left, status: u8, taken: u64, output: &[u8], notes: &[u8]) {
+    expect_end(rt, left, status, taken, notes);
+    assert!(rt; left.output.given() == output, "other output");
 }
 
 /// Runs a row over a tree, and looks at what it leaves.
@@ -236,8 +240,40 @@ pub fn expect_whole(
     Ok(())
 }
 
+const HEAD: &str = "Content-Length: ";
+
+/// The frames of an output that tell of no task.
+fn without_tasks(alloc: Global, output: &[u8]) -> Result<String, Fail> {
+    let Ok(text) = std::str::from_utf8(output) else {
+        return Err(Fail::from("the output is not UTF-8"));
+    };
+    let mut kept = String::new(alloc);
+    for frame in text.split(HEAD) {
+        if !frame.is_empty() && !frame.contains("\"method\":\"build/task") {
+            kept.push_str(HEAD)?;
+            kept.push_str(frame)?;
+        }
+    }
+    Ok(kept)
+}
+
+/// Runs a session as `expect_whole` does, and looks at its output but for what tells of tasks.
+pub fn expect_shown(
+    rt: &(impl Abort + AllocGlobal),
+    tree: &mut MemTree,
+    session: Vec<u8>,
+    output: &[u8],
+) -> Result<(), Fail> {
+    let taken = session.len() as u64;
+    let left = run(rt.alloc(), session, &[], NOTHING_FAILS, tree)?;
+    expect_end(rt, &left, 0, taken, b"");
+    let shown = without_tasks(rt.alloc(), left.output.given())?;
+    assert!(rt; shown.as_bytes() == output, "other output");
+    Ok(())
+}
+
 /// A session that is opened, sends these requests and is closed.
-fn session_of(alloc: Global, requests: &[&[u8]]) -> Result<Vec<u8>, Fail> {
+pub fn session_of(alloc: Global, requests: &[&[u8]]) -> Result<Vec<u8>, Fail> {
     let sent = framed(alloc, requests)?;
     joined(alloc, &[INITIALIZE, sent.as_slice(), SHUTDOWN, EXIT])
 }
@@ -248,8 +284,8 @@ fn output_of(alloc: Global, answers: &[&[u8]]) -> Result<Vec<u8>, Fail> {
     joined(alloc, &[INITIALIZED, answered.as_slice(), CLOSED])
 }
 
-/// Runs a session that is opened, sends these requests and is closed over a tree, and looks at what is answered
-/// between.
+/// Runs a session that is opened, sends these requests and is closed over a tree, and looks at what is answered and
+/// published between.
 pub fn expect_answers(
     rt: &(impl Abort + AllocGlobal),
     tree: &mut MemTree,
@@ -258,5 +294,5 @@ pub fn expect_answers(
 ) -> Result<(), Fail> {
     let output = output_of(rt.alloc(), answers)?;
     let session = session_of(rt.alloc(), requests)?;
-    expect_whole(rt, tree, session, 0, output.as_slice())
+    expect_shown(rt, tree, session, output.as_slice())
 }

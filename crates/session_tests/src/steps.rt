@@ -1,6 +1,6 @@
 //! Sessions of compiles: what each compile publishes, and how it ends.
 use crate::runs::{
-    CLOSED, EXIT, Files, INITIALIZE, INITIALIZED, SHUTDOWN, add_frame, expect_whole, joined, tree,
+    CLOSED, EXIT, Files, INITIALIZE, INITIALIZED, SHUTDOWN, add_frame, expect_shown, joined, tree,
 };
 use std::alloc::Global;
 use std::process::Abort;
@@ -80,8 +80,8 @@ fn item(alloc: Global, found: &str) -> Result<Vec<u8>, Fail> {
     )
 }
 
-/// The body of the publication of a list.
-fn published(alloc: Global, list: &List) -> Result<Vec<u8>, Fail> {
+/// The body of the publication of a list, with a member `originId` or without one.
+pub fn published(alloc: Global, list: &List, origin: &str) -> Result<Vec<u8>, Fail> {
     let (target, path, found) = list;
     let mut items = Vec::new(alloc);
     for found in *found {
@@ -98,7 +98,9 @@ fn published(alloc: Global, list: &List) -> Result<Vec<u8>, Fail> {
             target.as_bytes(),
             b"\"},\"diagnostics\":[",
             items.as_slice(),
-            b"],\"reset\":true,\"textDocument\":{\"uri\":\"file:///w/",
+            b"],",
+            origin.as_bytes(),
+            b"\"reset\":true,\"textDocument\":{\"uri\":\"file:///w/",
             path.as_bytes(),
             b"\"}}}",
         ],
@@ -122,7 +124,7 @@ fn output_of(alloc: Global, steps: &[Step]) -> Result<Vec<u8>, Fail> {
     let mut bytes = Vec::from_slice(alloc, INITIALIZED)?;
     for (_, lists, status) in steps {
         for list in *lists {
-            let shown = published(alloc, list)?;
+            let shown = published(alloc, list, "")?;
             add_frame(alloc, shown.as_slice(), &mut bytes)?;
         }
         let answer = format!(in alloc;
@@ -135,11 +137,11 @@ fn output_of(alloc: Global, steps: &[Step]) -> Result<Vec<u8>, Fail> {
     Ok(bytes)
 }
 
-/// Runs the session of a case, and looks at all that it is answered.
+/// Runs the session of a case, and looks at all that it is answered and that is published.
 pub fn expect_case(rt: &(impl Abort + AllocGlobal), case: &Case) -> Result<(), Fail> {
     let (files, changes, steps) = case;
     let mut tree = tree(rt.alloc(), files, changes, &[])?;
     let session = session_of(rt.alloc(), steps)?;
     let output = output_of(rt.alloc(), steps)?;
-    expect_whole(rt, &mut tree, session, 0, output.as_slice())
+    expect_shown(rt, &mut tree, session, output.as_slice())
 }

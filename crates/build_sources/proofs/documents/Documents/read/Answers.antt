@@ -1,21 +1,30 @@
-use Rattle.std.proofs.Common.{◌≡◌, ◌+◌, ◌-◌, ◌<◌, ℕ, List, Some, length, drop, sym, ap, subst, ◌∙◌, arith}
+use Rattle.std.proofs.Common.{◌≡◌, ◌+◌, ◌-◌, ◌<◌, ℕ, List, Some, length, drop, refl, sym, ap, subst, ◌∙◌, arith}
 use Rattle.std.specs.Prelude.{if◌then◌else◌}
 use Rattle.std.specs.Str.{bytes_eq}
+use Rattle.std.proofs.lemmas.Option.{slice_get_read}
 use Rattle.indexmap.specs.IndexMap.{get}
 use Rattle.ob_text.specs.Held.{IsReadable, held_at}
 use Rattle.ob_text.specs.declared.held.Held.{Held}
 use Rattle.build_sources.specs.Documents.{AreRead, IsDocument, IsDocumentOf}
-use Rattle.build_sources.proofs.ReadLaws.{one_read}
+use Rattle.build_sources.proofs.ReadLaws.{known_here, one_read}
 use Rattle.build_sources.proofs.documents.Documents.read.Goals as goal
 
 pub bounds-entries-left : goal.bounds-entries-left
 bounds-entries-left c = omega (arith, c.entries-test.true, c.entries.invariant.within)
 
-pub read-requires : goal.read-requires
-read-requires c =
+pub new-requires-clause-text : goal.new-requires-clause-text
+new-requires-clause-text c =
     let i = c.entries.left - 1 in
     let h : i < length c.args.entries.now = omega (arith, c.entries-test.true, c.entries.invariant.within) in
     subst (λ (e : List ℕ × Held). IsReadable e.1) (sym c.index-entries-left.is) (c.requires.texts i c.index-entries-left.result h)
+
+pub new-requires-clause-known : goal.new-requires-clause-known
+new-requires-clause-known c =
+    let entries = c.args.entries.now in
+    let i = c.entries.left - 1 in
+    let e : List ℕ × Held = c.index-entries-left.result in
+    let h : i < length entries = omega (arith, c.entries-test.true, c.entries.invariant.within) in
+    known_here entries c.args.known.now c.requires.known i e (slice_get_read entries (length entries) i e refl h c.index-entries-left.is) c.known_at.result c.known_at.ensures
 
 pub entries-preserved : goal.entries-preserved
 entries-preserved c =
@@ -27,7 +36,7 @@ entries-preserved c =
     record {
       within = omega (arith, c.entries.invariant.within);
       read = λ path.
-          let later = get bytes_eq c.entries.known path in
+          let later = get bytes_eq c.entries.by_path path in
           subst (IsDocumentOf (held_at (drop i entries) path)) (sym (c.in_ok-put.ensures path ∙ ap (λ (key : List ℕ). if bytes_eq key path then Some d else later) c.in_ok-copy.ensures))
           (one_read entries i c.index-entries-left.result path d later h c.index-entries-left.is c.in_ok-document.ensures
           (subst (λ n. IsDocumentOf (held_at (drop n entries) path) later) (sym next) (c.entries.invariant.read path)));
@@ -37,6 +46,7 @@ pub returns-clause-are : goal.returns-clause-are
 returns-clause-are c =
     let zero : c.entries.left ≡ 0 = omega (arith, c.entries-test.false) in
     record {
-      known = subst (λ n. AreRead (drop n c.args.entries.now) c.entries.known) zero c.entries.invariant.read;
-      absent = subst (λ (h : Held). IsDocument h c.in_ok-absent.absent) c.requires.absent c.in_ok-absent.ensures;
+      known = subst (λ n. AreRead (drop n c.args.entries.now) c.entries.by_path) zero c.entries.invariant.read;
+      absent = subst (λ (h : Held). IsDocument h c.in_ok-absent.absent.value) c.requires.absent
+          (subst (IsDocument c.args.absent.now) (sym c.in_ok-absent.ensures.ok) c.in_ok-read.ensures);
     }

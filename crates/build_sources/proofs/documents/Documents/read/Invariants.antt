@@ -9,5 +9,5 @@ abbrev pub invariant-entries : goal.invariant-entries
 invariant-entries l =
     record {
       within : l.left ≤ length l.fn.entries;
-      read : AreRead (drop l.left l.fn.entries) l.known;
+      read : AreRead (drop l.left l.fn.entries) l.by_path;
     }

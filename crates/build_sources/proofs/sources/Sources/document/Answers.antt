@@ -1,6 +1,6 @@
-use Rattle.std.proofs.Common.{◌≡◌, ℕ, List, sym, subst}
+use Rattle.std.proofs.Common.{ℕ, List, sym, subst}
 use Rattle.std.proofs.lemmas.Option.{get_or_from_slice_get}
-use Rattle.build_rules.specs.World.{handed_at, held_in}
+use Rattle.build_rules.specs.World.{handed_at}
 use Rattle.target_graph.specs.Workspace.{pairs_of}
 use Rattle.target_graph.proofs.Ids.{path_here}
 use Rattle.build_sources.specs.Documents.{IsDocument}

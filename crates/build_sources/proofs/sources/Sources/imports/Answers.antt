@@ -1,11 +1,10 @@
-use Rattle.std.proofs.Common.{ℕ, List, sym, subst}
+use Rattle.std.proofs.Common.{sym, subst}
 use Rattle.build_rules.specs.World.{held_in}
 use Rattle.build_sources.specs.Documents.{AreImportsOf}
 use Rattle.build_sources.specs.Sources.{world}
-use Rattle.build_sources.proofs.DocumentLaws.{document_names}
 use Rattle.build_sources.proofs.sources.Sources.imports.Goals as goal
 
 pub returns : goal.returns
 returns c =
     let held = held_in (world c.args.self.now) c.args.index in
-    subst (AreImportsOf held) (sym c.as_slice.ensures.value) (document_names held c.document.result.now c.document.ensures)
+    subst (AreImportsOf held) (sym c.as_slice.ensures.value) c.document.ensures.imported

@@ -12,7 +12,6 @@ use Rattle.target_graph.proofs.Ids.{path_here}
 use Rattle.build_sources.specs.Documents.{IsDocument}
 use Rattle.build_sources.specs.Rows.{IsRow}
 use Rattle.build_sources.specs.Sources.{world}
-use Rattle.build_sources.proofs.DocumentLaws.{document_names}
 use Rattle.build_sources.proofs.ImportLaws.{row_imports}
 use Rattle.build_sources.proofs.RowLaws.{rows_all, rows_more}
 use Rattle.build_sources.proofs.sources.Sources.rows.Goals as goal
@@ -47,7 +46,7 @@ loop-pair-preserved c =
     record {
       size = ap (λ (rs : List (List ℕ)). length rs) pushed ∙ size;
       each = λ p below q. subst (λ (rs : List (List ℕ)). Contains (row_at rs p) q ↔ Imports w p q) (sym pushed)
-          (rows_more w old i c.loop-pair.invariant.size c.loop-pair.invariant.each row (row_imports w i pair there c.of.result.now.imports.items (document_names (held_in w i) c.of.result.now document) row is_row) p below q);
+          (rows_more w old i c.loop-pair.invariant.size c.loop-pair.invariant.each row (row_imports w i pair there c.of.result.now.imports.items document.imported row is_row) p below q);
     }
 
 pub returns : goal.returns

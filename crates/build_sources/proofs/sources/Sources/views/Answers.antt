@@ -1,12 +1,11 @@
-use Rattle.std.proofs.Common.{◌≡◌, ℕ, List, sym, subst, ◌∙◌}
+use Rattle.std.proofs.Common.{ℕ, List, subst, ◌∙◌}
 use Rattle.std.specs.Prelude.{Contains}
-use Rattle.indexmap.specs.IndexMap.{IndexMap}
 use Rattle.std.proofs.lemmas.Result.{IfOk-weaker}
 use Rattle.build_rules.specs.World.{held_in}
 use Rattle.build_sources.specs.Known.{AreViewsOf}
 use Rattle.build_sources.specs.Sources.{world}
 use Rattle.build_sources.proofs.CheckLaws.{shown}
-use Rattle.build_sources.proofs.DocumentLaws.{document_names, same_names}
+use Rattle.build_sources.proofs.DocumentLaws.{same_names}
 use Rattle.oberon_module.specs.Views.{plain_views}
 use Rattle.oberon_rules.specs.Local.{view_in}
 use Rattle.build_sources.proofs.sources.Sources.views.Goals as goal
@@ -17,7 +16,7 @@ returns-clause-shown c =
     let p = c.args.index in
     let names = c.document.result.now.imports.items in
     IfOk-weaker c.views_of.result _ _
-    (λ views are. λ known. shown w p c.pair.result.now c.pair.ensures.there names (document_names (held_in w p) c.document.result.now c.document.ensures) c.args.kept.now known (view_in (plain_views views.entries))
+    (λ views are. λ known. shown w p c.pair.result.now c.pair.ensures.there names c.document.ensures.imported c.args.kept.now known (view_in (plain_views views.entries))
     (subst (λ (ns : List (List ℕ)). AreViewsOf w.targets c.pair.result.now.target c.args.kept.now ns (view_in (plain_views views.entries))) c.as_slice-imports.ensures.value are))
     c.views_of.ensures.are
 
@@ -29,5 +28,5 @@ returns-clause-others c =
     IfOk-weaker c.views_of.result _ _
     (λ views rest. λ others are name none. rest name
     (λ (listed : Contains c.as_slice-imports.result.now name). none (subst (λ (ns : List (List ℕ)). Contains ns name)
-    (c.as_slice-imports.ensures.value ∙ same_names (held_in w p) names others (document_names (held_in w p) c.document.result.now c.document.ensures) are) listed)))
+    (c.as_slice-imports.ensures.value ∙ same_names (held_in w p) names others c.document.ensures.imported are) listed)))
     c.views_of.ensures.others

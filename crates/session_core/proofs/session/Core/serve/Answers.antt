@@ -1,4 +1,4 @@
-use Rattle.std.proofs.Common.{◌≡◌, ℕ, List, option_map, subst}
+use Rattle.std.proofs.Common.{◌≡◌, ℕ, List, None, option_map, subst}
 use Rattle.std.proofs.lemmas.Result.{on_ok_weaker}
 use Rattle.serde_json.specs.View.{view}
 use Rattle.session_law.specs.Methods.{asking, due_in, verdict}
@@ -23,9 +23,9 @@ pub returns-in-Opening-clause-ok : goal.returns-in-Opening-clause-ok
 returns-in-Opening-clause-ok c =
     let old = c.args.self.now in
     let v = verdict c.as_slice-method.result.now (option_map view c.args.params) old.workspace old.closed in
-    let is : v ≡ asking c.in-Opening.root = rw c.in-Opening.is at c.in_ok-answer.ensures.judged in
+    let is : (v ≡ asking c.in-Opening.root) × (old.workspace ≡ None) = rw c.in-Opening.is at c.in_ok-answer.ensures.judged in
     on_ok_weaker c.ask.result
     (λ does.
     subst (λ (name : List ℕ). ServesAs old c.ask.new.self c.args.id (due_in old.workspace (verdict name (option_map view c.args.params) old.workspace old.closed))) c.as_slice-method.ensures
-    (serves_opening old c.ask.new.self c.args.id v c.requires c.in-Opening.root is does))
+    (serves_opening old c.ask.new.self c.args.id v c.requires c.in-Opening.root is.0 is.1 does))
     c.ask.ensures.ok

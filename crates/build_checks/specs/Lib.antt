@@ -1,0 +1,5 @@
+pub mod First
+pub mod Kept
+pub mod Looked
+pub mod Numbers
+pub mod Stand

@@ -1,0 +1,95 @@
+ghost use Rattle.std.specs.Prelude.{◌≡◌, ◌<◌, None, length, IfOk, replicate};
+ghost use Rattle.std.specs.List.{slice_set};
+ghost use Rattle.build_sources.specs.Documents.{AreKnown, IsKnown};
+
+use check_cache::{Cache, PairKey};
+use indexmap::IndexMap;
+use ob_text::{Held, Name, NoMemory, Path};
+use std::alloc::Global;
+use target_graph::{Pair, Workspace};
+
+/// For each entry of a snapshot in order the names that its document imports, where a check of the same text is kept.
+pub(crate) fn known_imports<'a>(
+    alloc: Global,
+    workspace: &Workspace,
+    entries: &[(Path, Held)],
+    cache: &'a Cache,
+) -> Result<Vec<Option<&'a [Name]>>, NoMemory>
+    ensures { IfOk result (λ known. AreKnown entries.now known.items) }
+{
+    let places = places_of(alloc, entries)?;
+    let mut known = nothing(alloc, entries.len())?;
+    for pair in workspace.pairs() {
+        match places.get(&pair.path) {
+            Some(place) => learn(alloc, cache, pair, entries, *place, &mut known)?,
+            None => {}
+        }
+    }
+    Ok(known)
+}
+
+/// Nothing is known of so many documents.
+fn nothing<'a>(alloc: Global, count: usize) -> Result<Vec<Option<&'a [Name]>>, NoMemory>
+    ensures { IfOk result (λ known. known.items ≡ replicate count None) }
+{
+    let mut known = Vec::new(alloc);
+    'documents: while known.len() < count {
+        known.push(None)?;
+    }
+    Ok(known)
+}
+
+/// The index of each path's entry, of the last one where it stands twice. It only decides where a kept check is looked for.
+fn places_of(alloc: Global, entries: &[(Path, Held)]) -> Result<IndexMap<Path, usize>, NoMemory> {
+    let mut places = IndexMap::new(alloc);
+    for place in 0..entries.len() {
+        places.insert(entries[place].0.copy(alloc)?, place)?;
+    }
+    Ok(places)
+}
+
+/// Learns what a pair's kept checks say of the document at an index.
+fn learn<'a>(
+    alloc: Global,
+    cache: &'a Cache,
+    pair: &Pair,
+    entries: &[(Path, Held)],
+    place: usize,
+    known: &mut Vec<Option<&'a [Name]>>,
+) -> Result<(), NoMemory>
+    requires sized { length known.old.items ≡ length entries.now }
+    requires known { AreKnown entries.now known.old.items }
+    ensures sized { length known.new.items ≡ length entries.now }
+    ensures known { AreKnown entries.now known.new.items }
+{
+    if place < entries.len() {
+        let key = PairKey::of(alloc, pair)?;
+        let names = learned(cache, &key, &entries[place].1, known[place]);
+        put(place, names, known);
+    }
+    Ok(())
+}
+
+/// What is known of what is held, or else what a pair's kept checks say of it.
+fn learned<'a>(
+    cache: &'a Cache,
+    key: &PairKey,
+    held: &Held,
+    known: Option<&'a [Name]>,
+) -> Option<&'a [Name]>
+    requires { IsKnown held.now known }
+    ensures { IsKnown held.now result }
+{
+    match known {
+        Some(names) => Some(names),
+        None => cache.imports(key, held),
+    }
+}
+
+/// Puts what is known of the document at an index.
+fn put<'a>(place: usize, names: Option<&'a [Name]>, known: &mut Vec<Option<&'a [Name]>>)
+    requires { place < length known.old.items }
+    ensures { known.new.items ≡ slice_set known.old.items place names.entry }
+{
+    known[place] = names;
+}

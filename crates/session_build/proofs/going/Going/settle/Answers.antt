@@ -1,0 +1,61 @@
+use Rattle.std.proofs.Common.{◌≡◌, List, get_or, map, refl, ap, subst, ◌∙◌}
+use Rattle.std.proofs.lemmas.Option.{get_or_from_slice_get}
+use Rattle.build_checks.specs.Numbers.{AreNumbersOf}
+use Rattle.build_checks.specs.Stand.{world_of}
+use Rattle.build_rules.specs.Views.{HasView}
+use Rattle.build_rules.specs.World.{IsCyclic}
+use Rattle.ob_text.specs.declared.diagnostic.Diagnostic.{Diagnostic}
+use Rattle.oberon_module.specs.declared.check.Checked.{Checked}
+use Rattle.oberon_types.specs.Memory.{plain_view}
+use Rattle.session_law.specs.Builds.{build_document}
+use Rattle.session_law.specs.Course.{count_errors, count_warnings}
+use Rattle.session_law.specs.declared.BuildDocument.{BuildDocument}
+use Rattle.session_build.specs.Outgoing.{outgoing_said}
+use Rattle.session_build.specs.Publishing.{IsPublishedOne}
+use Rattle.task_stream.specs.Showing.{shows}
+use Rattle.session_build.proofs.going.Going.settle.Goals as goal
+
+pub returns : goal.returns
+returns c =
+    let at = c.args.at.now in
+    let pair = c.args.pair in
+    let fact = c.args.fact.now in
+    let old = c.args.self.now in
+    let place = c.place_of-place.result in
+    let document : BuildDocument = build_document at.workspace.now pair in
+    let here : get_or at.documents.now place c.index-at-place.result ≡ document =
+    get_or_from_slice_get at.documents.now place document c.index-at-place.result c.place_of-place.ensures in
+    let found : c.checked-checked.result.now ≡ fact.checked = c.checked-checked.ensures.checked in
+    let list : c.as_slice.result.now ≡ fact.checked.list.items = c.as_slice.ensures.value ∙ ap (λ (x : Checked). x.list.items) found in
+    let own : c.in_ok-list.list.items ≡ fact.checked.list.items = c.in_ok-list.ensures ∙ (c.as_slice-2.ensures.value ∙ ap (λ (x : Checked). x.list.items) found) in
+    record {
+      is_fact = c.checked-checked.ensures.sound;
+      checks = c.in_ok-settle.ensures.checks;
+      world_same = c.in_ok-settle.ensures.world;
+      modules_same = c.in_ok-settle.ensures.modules;
+      taken_same = c.in_ok-settle.ensures.taken;
+      left_same = c.in_ok-settle.ensures.left;
+      settled = c.in_ok-settle.ensures.settled;
+      numbers =
+          subst (λ (x : Checked). (¬ (IsCyclic (world_of old.checks) pair) → HasView (world_of old.checks) pair (plain_view x.view))
+          → AreNumbersOf c.args.keys.now old.checks → AreNumbersOf c.settle.new.keys c.settle.new.self) found c.in_ok-settle.ensures.numbers;
+      more = c.in_ok-settle.ensures.earlier;
+      place = place;
+      there = c.place_of-place.ensures;
+      tally = c.counted.result;
+      counted = record {
+        begun_is = c.counted.ensures.begun;
+        errors_are = c.counted.ensures.errors ∙ ap count_errors list;
+        warnings_are = c.counted.ensures.warnings ∙ ap count_warnings list;
+      };
+      tallies = refl;
+      failed = c.in_ok-publish_one.field-0;
+      published =
+          subst (λ (d : BuildDocument). IsPublishedOne (shows c.args.shown.now) (shows c.publish_one.new.shown) d at.origin.value fact.checked.list.items
+          (map outgoing_said old.messages.items) (map outgoing_said c.publish_one.new.messages.items) c.in_ok-publish_one.field-0) here
+          (subst (λ (ds : List Diagnostic). IsPublishedOne (shows c.args.shown.now) (shows c.publish_one.new.shown) (get_or at.documents.now place c.index-at-place.result) at.origin.value ds
+          (map outgoing_said old.messages.items) (map outgoing_said c.publish_one.new.messages.items) c.in_ok-publish_one.field-0) own c.in_ok-publish_one.ensures);
+      count = refl;
+      jobs = refl;
+      made = refl;
+    }

@@ -1,0 +1,15 @@
+use Rattle.std.proofs.Common.{◌≤◌}
+use Rattle.session_build.specs.Going.{Goes, IsSound, all_left}
+use Rattle.task_stream.specs.Showing.{shows}
+use Rattle.session_build.proofs.going.Going.take_all.Given as goal
+
+abbrev pub invariant-documents : goal.invariant-documents
+invariant-documents l =
+    record {
+      sound : IsSound l.at l.self;
+      goes : Goes l.at l.fn.self l.self l.fn.keys l.keys (shows l.fn.shown) (shows l.shown);
+      left : all_left l.self.checks l.self.jobs.items ≤ all_left l.fn.self.checks l.fn.self.jobs.items;
+    }
+
+abbrev pub decreases-documents : goal.decreases-documents
+decreases-documents l = all_left l.self.checks l.self.jobs.items

@@ -1,0 +1,12 @@
+pub mod TaskLaws
+pub mod NoticeLaws
+pub mod TaskFrames
+pub mod ListLaws
+pub mod ClosureLaws
+pub mod StageLaws
+pub mod StartLaws
+pub mod PublishedLaws
+pub mod CourseLaws
+pub mod HistoryLaws
+pub mod EndLaws
+pub mod DueLaws
