@@ -1,0 +1,3 @@
+pub mod CallerLaws
+pub mod IdLaws
+pub mod MarkLaws
