@@ -1,16 +1,25 @@
 -- What callers need of lists of requests that wait: which one is taken, and what all that are taken come to.
-use Rattle.std.proofs.Common.{◌≡◌, Bool, true, false, cond, List, [], ◌∷◌, ◌++◌, filter, Option, Some, None, refl, ap, sym, ◌∙◌, subst, true≢false}
-use Rattle.std.specs.Prelude.{find, not}
+use Rattle.std.proofs.Common.{◌≡◌, Bool, true, false, cond, List, [], ◌∷◌, ◌++◌, Option, Some, None, refl, ap, sym, ◌∙◌, subst}
+use Rattle.std.specs.Prelude.{not}
 use Rattle.std.specs.Option.{option_or}
 use Rattle.std.proofs.lemmas.List.Elements.{filter-append}
 use Rattle.std.proofs.lemmas.List.Folds.{find-append}
 use Rattle.rpc_peer.specs.declared.message.Id.{Id}
 use Rattle.rpc_peer.specs.OpenIds.{has_id, same_id}
-use Rattle.session_queue.specs.Waiting.{AreApart, TakesMarked, first_marked, ids, kept_of, marked_of, without}
+use Rattle.session_queue.specs.Waiting.{AreApart, first_marked, ids, kept_of, marked_of, without}
 use Rattle.session_queue.specs.declared.waiting.Waiting.{Waiting}
 use Rattle.session_queue.proofs.IdLaws.{apart_back, apart_from_middle, same_id_refl}
 
 module _ {T : Type 0} where
+  -- A marked request was taken from between those before it, none of which is marked, and those behind it.
+  pub record TakesMarked (old : List (Waiting T)) (taken : Waiting T) (new : List (Waiting T)) : Type 0 where
+    pub before : List (Waiting T)
+    pub after : List (Waiting T)
+    pub was : old ≡ before ++ taken ∷ after
+    pub is : new ≡ before ++ after
+    pub marked : taken.cancelled ≡ true
+    pub none_before : first_marked before ≡ None
+
   pub ids-append : (before after : List (Waiting T)) → ids (before ++ after) ≡ ids before ++ ids after
   ids-append [] after = refl
   ids-append (waiting ∷ before) after = ap (λ (rest : List Id). waiting.id ∷ rest) (ids-append before after)

@@ -1,5 +1,5 @@
 -- What becomes of the requests that wait as their marks change.
-use Rattle.std.proofs.Common.{◌≡◌, ◌||◌, ℕ, zero, suc, ◌+◌, ◌<◌, ◌≤◌, Bool, true, false, cond, List, [], ◌∷◌, ◌++◌, map, length, take, drop, get_or, set, remove, position, Option, Some, None, is_some, refl, ap, sym, ◌∙◌, subst, true≢false, arith}
+use Rattle.std.proofs.Common.{◌≡◌, ◌||◌, ℕ, zero, suc, ◌+◌, ◌<◌, ◌≤◌, Bool, true, false, cond, List, [], ◌∷◌, ◌++◌, map, length, take, drop, get_or, set, remove, position, Option, Some, None, is_some, refl, ap, sym, ◌∙◌, subst, arith}
 use Rattle.std.specs.Prelude.{if◌then◌else◌, unwrap_or}
 use Rattle.std.specs.Bool.{OnTrue, OnFalse}
 use Rattle.std.specs.List.{position_from}
@@ -10,9 +10,10 @@ use Rattle.indexmap.specs.Layout.{set_value_at}
 use Rattle.rpc_peer.specs.declared.message.Id.{Id}
 use Rattle.rpc_peer.specs.OpenIds.{has_id, same_id}
 use Rattle.session_queue.specs.Marks.{AreMarksOf, equal, id_of, ids_of, is_marked, mark_at, marked_entry, waiting_at, waiting_of}
-use Rattle.session_queue.specs.Waiting.{AreApart, TakesMarked, all_marked, first_marked, has_this_id, ids, marked_if, marked_where}
+use Rattle.session_queue.specs.Waiting.{all_marked, first_marked, has_this_id, ids, marked_if, marked_where}
 use Rattle.session_queue.specs.declared.waiting.Request.{Request}
 use Rattle.session_queue.specs.declared.waiting.Waiting.{Waiting}
+use Rattle.session_queue.proofs.CallerLaws.{TakesMarked}
 use Rattle.session_queue.proofs.IdLaws.{AreApart-push, AreApart-without, equal_is_same, has_id_around, apart_back, middle_apart, or_false, same_id_refl, same_is}
 
 found_behind : (a b : Bool) → b ≡ true → (a || b) ≡ true

@@ -1,5 +1,5 @@
 -- How a queue keeps its requests: those that wait in a list, and of each id that waits its mark in a map.
-use Rattle.std.specs.Prelude.{◌≡◌, List, [], ◌∷◌, Bool, true, false, Option, is_some, unwrap_or, map}
+use Rattle.std.specs.Prelude.{◌≡◌, List, Bool, true, false, Option, is_some, unwrap_or, map}
 use Rattle.std.specs.Map.{lookup}
 use Rattle.rpc_peer.specs.contracts.message.IdPartialEq.TheImpl.{eq-value}
 use Rattle.rpc_peer.specs.declared.message.Id.{Id}

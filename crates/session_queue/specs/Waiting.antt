@@ -1,5 +1,5 @@
 -- The requests that wait, the oldest first, as a plain list.
-use Rattle.std.specs.Prelude.{◌≡◌, ◌||◌, List, [], ◌∷◌, ◌++◌, Bool, true, false, not, filter, find, Option, None, if◌then◌else◌}
+use Rattle.std.specs.Prelude.{◌≡◌, ◌||◌, List, [], ◌∷◌, Bool, true, false, not, filter, find, Option, if◌then◌else◌}
 use Rattle.rpc_peer.specs.declared.message.Id.{Id}
 use Rattle.rpc_peer.specs.OpenIds.{has_id, same_id}
 use Rattle.session_queue.specs.declared.waiting.Waiting.{Waiting}
@@ -49,12 +49,3 @@ module _ {T : Type 0} where
 
   abbrev pub kept_of : List (Waiting T) → List (Waiting T)
   kept_of queue = filter (λ waiting. not waiting.cancelled) queue
-
-  -- A marked request was taken from between those before it, none of which is marked, and those behind it.
-  pub record TakesMarked (old : List (Waiting T)) (taken : Waiting T) (new : List (Waiting T)) : Type 0 where
-    pub before : List (Waiting T)
-    pub after : List (Waiting T)
-    pub was : old ≡ before ++ taken ∷ after
-    pub is : new ≡ before ++ after
-    pub marked : taken.cancelled ≡ true
-    pub none_before : first_marked before ≡ None

@@ -1,4 +1,4 @@
-use Rattle.std.proofs.Common.{◌≡◌, ◌+◌, ◌<◌, ◌≤◌, length, add-one, ap, ◌∙◌, arith}
+use Rattle.std.proofs.Common.{length, add-one, ap, ◌∙◌, arith}
 use Rattle.indexmap.specs.Layout.{set_value_at}
 use Rattle.std.proofs.Common.{List, Bool, true}
 use Rattle.rpc_peer.specs.declared.message.Id.{Id}

@@ -1,4 +1,4 @@
-use Rattle.std.proofs.Common.{List, ap, sym, subst, ◌∙◌}
+use Rattle.std.proofs.Common.{ap, sym, subst, ◌∙◌}
 use Rattle.rpc_peer.specs.OpenIds.{has_id}
 use Rattle.session_queue.specs.Waiting.{AreApart, ids, is_open}
 use Rattle.session_queue.proofs.MarkLaws.{ids-waiting_of}

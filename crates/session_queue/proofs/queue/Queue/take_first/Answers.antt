@@ -1,5 +1,5 @@
-use Rattle.std.proofs.Common.{◌≡◌, ◌∷◌, [], List, refl, ap, sym, ◌∙◌}
-use Rattle.session_queue.specs.Marks.{waiting_at, waiting_of}
+use Rattle.std.proofs.Common.{◌∷◌, [], List, refl, ap, sym, ◌∙◌}
+use Rattle.session_queue.specs.Marks.{waiting_of}
 use Rattle.session_queue.specs.declared.waiting.Waiting.{Waiting}
 use Rattle.session_queue.proofs.MarkLaws.{taken_marks, taken_waiting}
 use Rattle.session_queue.proofs.queue.Queue.take_first.Goals as goal

@@ -1,7 +1,7 @@
 use Rattle.std.proofs.Common.{ap, sym, subst, ◌∙◌}
 use Rattle.session_queue.specs.Marks.{waiting_at, waiting_of}
-use Rattle.session_queue.specs.Waiting.{AreApart, TakesMarked, first_marked, ids}
-use Rattle.session_queue.proofs.CallerLaws.{TakesMarked-same, kept_stays, marked_falls, taken_by_id, taken_is_first}
+use Rattle.session_queue.specs.Waiting.{AreApart, first_marked, ids}
+use Rattle.session_queue.proofs.CallerLaws.{TakesMarked, TakesMarked-same, kept_stays, marked_falls, taken_by_id, taken_is_first}
 use Rattle.session_queue.proofs.MarkLaws.{ids-waiting_of, none_at_all, takes_marked}
 use Rattle.session_queue.proofs.queue.Queue.take_marked.Given.{Over}
 use Rattle.session_queue.proofs.queue.Queue.take_marked.Goals as goal
