@@ -96,7 +96,8 @@ impl<T> Queue<T> {
 
     /// Takes the oldest request. Takes no memory.
     pub fn take_first(&mut self) -> Option<Waiting<T>>
-        ensures { self.old ≡ option_to_list result ++ self.new }
+        ensures first { self.old ≡ option_to_list result ++ self.new }
+        ensures none { IfNone result (self.old ≡ []) }
     {
         match self.requests.pop_front() {
             Some(request) => Some(marked(&mut self.marks, request)),

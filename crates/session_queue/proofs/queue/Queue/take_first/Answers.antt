@@ -10,8 +10,8 @@ invariant_of-self g c =
     let rest = c.pop_front.new.self.items in
     taken_marks queue.marks.entries c.marked.new.marks.entries queue.requests.items rest [] rest c.in-Some.request c.marked.ensures.others c.in-Some.ensures.items refl c.self.invariant
 
-pub returns-in-Some : goal.returns-in-Some
-returns-in-Some g c =
+pub returns-in-Some-clause-first : goal.returns-in-Some-clause-first
+returns-in-Some-clause-first g c =
     let queue = c.self.inside in
     let rest = c.pop_front.new.self.items in
     let left = taken_waiting queue.marks.entries c.marked.new.marks.entries queue.requests.items rest [] rest c.in-Some.request c.marked.ensures.others c.in-Some.ensures.items refl c.self.invariant in
