@@ -25,7 +25,13 @@ fn settles_what_is_marked(rt: HostRuntime) -> Result<(), Fail> {
     let alloc = rt.alloc();
     let mut queue = Queue::new(alloc);
     for number in 0..9u64 {
-        push(alloc, &mut queue, Number(number as i64), number, number % 3 == 0)?;
+        push(
+            alloc,
+            &mut queue,
+            Number(number as i64),
+            number,
+            number % 3 == 0,
+        )?;
     }
     let taken = settled(alloc, &mut queue)?;
     assert_eq!(rt; taken.len(), 3);

@@ -68,11 +68,12 @@ pub fn is_taken(
 ) -> Result<bool, NoMemory> {
     match (found, wanted) {
         (None, None) => Ok(true),
-        (Some(waiting), Some(Taken(key, number, cancelled))) => Ok(waiting.id
-            == id_of(alloc, key)?
-            && waiting.number == number
-            && waiting.call == number.saturating_add(1_000)
-            && waiting.cancelled == cancelled),
+        (Some(waiting), Some(Taken(key, number, cancelled))) => Ok(
+            waiting.id == id_of(alloc, key)?
+                && waiting.number == number
+                && waiting.call == number.saturating_add(1_000)
+                && waiting.cancelled == cancelled,
+        ),
         _ => Ok(false),
     }
 }

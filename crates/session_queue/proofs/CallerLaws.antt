@@ -43,9 +43,10 @@ module _ {T : Type 0} where
           let found : Some waiting ≡ None = ap (λ (b : Bool). cond b (Some waiting) (first_marked queue)) (sym is) ∙ none in
           absurd (cc)
       by false is rest =
-          let others = rest (ap (λ (b : Bool). cond b (Some waiting) (first_marked queue)) (sym is) ∙ none) in
-          (ap (λ (b : Bool). cond b (waiting ∷ marked_of queue) (marked_of queue)) is ∙ others.0,
-          ap (λ (b : Bool). cond (not b) (waiting ∷ kept_of queue) (kept_of queue)) is ∙ ap (λ (kept : List (Waiting T)). waiting ∷ kept) others.1)
+          let others = rest (ap (λ (b : Bool). cond b (Some waiting) (first_marked queue)) (sym is) ∙ none) in (
+            ap (λ (b : Bool). cond b (waiting ∷ marked_of queue) (marked_of queue)) is ∙ others.0,
+            ap (λ (b : Bool). cond (not b) (waiting ∷ kept_of queue) (kept_of queue)) is ∙ ap (λ (kept : List (Waiting T)). waiting ∷ kept) others.1,
+          )
 
   -- the first that is marked stands behind some that aren't
   SplitsAt : List (Waiting T) → Waiting T → Type 0

@@ -10,7 +10,7 @@ use Rattle.indexmap.specs.Layout.{set_value_at}
 use Rattle.rpc_peer.specs.declared.message.Id.{Id}
 use Rattle.rpc_peer.specs.OpenIds.{has_id, same_id}
 use Rattle.session_queue.specs.Marks.{AreMarksOf, equal, id_of, ids_of, is_marked, mark_at, marked_entry, waiting_at, waiting_of}
-use Rattle.session_queue.specs.Waiting.{all_marked, first_marked, has_this_id, ids, marked_if, marked_where}
+use Rattle.session_queue.specs.Waiting.{AreApart, all_marked, first_marked, has_this_id, ids, marked_if, marked_where}
 use Rattle.session_queue.specs.declared.waiting.Request.{Request}
 use Rattle.session_queue.specs.declared.waiting.Waiting.{Waiting}
 use Rattle.session_queue.proofs.CallerLaws.{TakesMarked}
@@ -54,9 +54,9 @@ module _ (old new : List (Id × Bool)) (id : Id) (mark : Option Bool) (told : (o
   -- the marks are those of the same ids, where the one that changed was there and is
   pub AreMarksOf-set : (held : List Id) → AreMarksOf old held → is_some (mark_at old id) ≡ true → is_some mark ≡ true → AreMarksOf new held
   AreMarksOf-set held are there stays = record {
-      apart = are.apart;
-      known = λ other. by other (same_id id other) refl;
-    }
+    apart = are.apart;
+    known = λ other. by other (same_id id other) refl;
+  }
     where
       by : (other : Id) (same : Bool) → same_id id other ≡ same → is_some (mark_at new other) ≡ has_id other held
       by other true here =
@@ -66,13 +66,14 @@ module _ (old new : List (Id × Bool)) (id : Id) (mark : Option Bool) (told : (o
   -- or of one id more
   pub AreMarksOf-push : (held : List Id) → AreMarksOf old held → has_id id held ≡ false → is_some mark ≡ true → AreMarksOf new (held ++ id ∷ [])
   AreMarksOf-push held are none more = record {
-      apart = AreApart-push held id are.apart none;
-      known = λ other. by other (same_id id other) refl;
-    }
+    apart = AreApart-push held id are.apart none;
+    known = λ other. by other (same_id id other) refl;
+  }
     where
       found : (other : Id) (ids : List Id) → same_id other id ≡ true → has_id other (ids ++ id ∷ []) ≡ true
       found other [] here = ap (λ (b : Bool). b || false) here
       found other (first ∷ ids) here = found_behind (same_id other first) (has_id other (ids ++ id ∷ [])) (found other ids here)
+
       by : (other : Id) (same : Bool) → same_id id other ≡ same → is_some (mark_at new other) ≡ has_id other (held ++ id ∷ [])
       by other true here =
           ap is_some (own other here) ∙ (more ∙ sym (found other held (ap (λ (q : Id). same_id q id) (sym (same_is id other here)) ∙ same_id_refl id)))
@@ -82,9 +83,9 @@ module _ (old new : List (Id × Bool)) (id : Id) (mark : Option Bool) (told : (o
   -- or of one less
   pub AreMarksOf-without : (before after : List Id) → AreMarksOf old (before ++ id ∷ after) → mark ≡ None → AreMarksOf new (before ++ after)
   AreMarksOf-without before after are gone = record {
-      apart = AreApart-without before id after are.apart;
-      known = λ other. by other (same_id id other) refl;
-    }
+    apart = AreApart-without before id after are.apart;
+    known = λ other. by other (same_id id other) refl;
+  }
     where
       by : (other : Id) (same : Bool) → same_id id other ≡ same → is_some (mark_at new other) ≡ has_id other (before ++ after)
       by other true here =
@@ -110,6 +111,10 @@ module _ {T : Type 0} where
   pub ids-waiting_of : (marks : List (Id × Bool)) (requests : List (Request T)) → ids (waiting_of marks requests) ≡ ids_of requests
   ids-waiting_of marks [] = refl
   ids-waiting_of marks (request ∷ requests) = ap (λ (rest : List Id). request.id ∷ rest) (ids-waiting_of marks requests)
+
+  -- and no two are the same
+  pub ids_apart : (marks : List (Id × Bool)) (requests : List (Request T)) (queue : List (Waiting T)) → waiting_of marks requests ≡ queue → AreMarksOf marks (ids_of requests) → AreApart (ids queue)
+  ids_apart marks requests queue view_is are = subst AreApart (sym (ids-waiting_of marks requests) ∙ ap ids view_is) are.apart
 
   -- where none has this id, none is marked by it
   pub none_has_it : (id : Id) (queue : List (Waiting T)) → has_id id (ids queue) ≡ false → marked_where (has_this_id id) queue ≡ queue
@@ -177,16 +182,17 @@ module _ {T : Type 0} where
   takes_marked old new requests items place request told are first at is =
       let found = position-Some (λ r. is_marked old r.id) requests place request first in
       let was : requests ≡ take place requests ++ request ∷ drop (suc place) requests =
-          sym (set-get_or requests place request) ∙ (ap (set requests place) (sym at) ∙ set_split requests place request found.0) in
-      (taken_marks old new requests items (take place requests) (drop (suc place) requests) request told was is are,
-      record {
-        before = waiting_of old (take place requests);
-        after = waiting_of old (drop (suc place) requests);
-        was = ap (waiting_of old) was ∙ map-append (waiting_at old) (take place requests) (request ∷ drop (suc place) requests);
-        is = taken_waiting old new requests items (take place requests) (drop (suc place) requests) request told was is are;
-        marked = ap (λ (r : Request T). is_marked old r.id) at ∙ found.1;
-        none_before = none_before old requests place request found.2;
-      })
+      sym (set-get_or requests place request) ∙ (ap (set requests place) (sym at) ∙ set_split requests place request found.0) in (
+        taken_marks old new requests items (take place requests) (drop (suc place) requests) request told was is are,
+        record {
+          before = waiting_of old (take place requests);
+          after = waiting_of old (drop (suc place) requests);
+          was = ap (waiting_of old) was ∙ map-append (waiting_at old) (take place requests) (request ∷ drop (suc place) requests);
+          is = taken_waiting old new requests items (take place requests) (drop (suc place) requests) request told was is are;
+          marked = ap (λ (r : Request T). is_marked old r.id) at ∙ found.1;
+          none_before = none_before old requests place request found.2;
+        },
+      )
 
   none_found : (marks : List (Id × Bool)) (requests : List (Request T)) (from : ℕ) → position_from (λ r. is_marked marks r.id) from requests ≡ None → first_marked (waiting_of marks requests) ≡ None
   none_found marks [] from none = refl
@@ -212,9 +218,10 @@ module _ {T : Type 0} where
   marked_id old new requests id true known told same are =
       (AreMarksOf-set old new id (Some true) told (ids_of requests) are (sym known) refl, waiting_of-marked old new id (Some true) told refl requests)
   marked_id old new requests id false known told same are =
-      let closed : has_id id (ids (waiting_of old requests)) ≡ false = ap (has_id id) (ids-waiting_of old requests) ∙ (sym (are.known id) ∙ sym known) in
-      (subst (λ (marks : List (Id × Bool)). AreMarksOf marks (ids_of requests)) (sym same) are,
-      ap (λ (marks : List (Id × Bool)). waiting_of marks requests) same ∙ sym (none_has_it id (waiting_of old requests) closed))
+      let closed : has_id id (ids (waiting_of old requests)) ≡ false = ap (has_id id) (ids-waiting_of old requests) ∙ (sym (are.known id) ∙ sym known) in (
+        subst (λ (marks : List (Id × Bool)). AreMarksOf marks (ids_of requests)) (sym same) are,
+        ap (λ (marks : List (Id × Bool)). waiting_of marks requests) same ∙ sym (none_has_it id (waiting_of old requests) closed),
+      )
 
 -- ---- all marks change
 
@@ -230,9 +237,9 @@ mark_at-all (entry ∷ marks) id = by (equal id entry.0) refl (mark_at-all marks
 -- the ids stay
 pub AreMarksOf-all : (marks : List (Id × Bool)) (held : List Id) → AreMarksOf marks held → AreMarksOf (map marked_entry marks) held
 AreMarksOf-all marks held are = record {
-    apart = are.apart;
-    known = λ id. ap is_some (mark_at-all marks id) ∙ (same (is_some (mark_at marks id)) ∙ are.known id);
-  }
+  apart = are.apart;
+  known = λ id. ap is_some (mark_at-all marks id) ∙ (same (is_some (mark_at marks id)) ∙ are.known id);
+}
   where
     same : (there : Bool) → is_some (if there then Some true else None) ≡ there
     same true = refl

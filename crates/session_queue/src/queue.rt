@@ -113,6 +113,7 @@ impl<T> Queue<T> {
         // So those that are taken one after another are all that are marked, in order, and the others stay in order.
         ensures marked { marked_of self.old ≡ option_to_list result ++ marked_of self.new }
         ensures kept { kept_of self.new ≡ kept_of self.old }
+        ensures apart { AreApart (ids self.old) }
     {
         let place = first_marked(&self.requests, &self.marks)?;
         let request = self.requests.remove(place)?;

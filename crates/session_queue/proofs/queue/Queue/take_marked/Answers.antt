@@ -1,8 +1,8 @@
-use Rattle.std.proofs.Common.{ap, sym, subst, ◌∙◌}
+use Rattle.std.proofs.Common.{ap, sym, ◌∙◌}
 use Rattle.session_queue.specs.Marks.{waiting_at, waiting_of}
-use Rattle.session_queue.specs.Waiting.{AreApart, first_marked, ids}
+use Rattle.session_queue.specs.Waiting.{first_marked}
 use Rattle.session_queue.proofs.CallerLaws.{TakesMarked, TakesMarked-same, kept_stays, marked_falls, taken_by_id, taken_is_first}
-use Rattle.session_queue.proofs.MarkLaws.{ids-waiting_of, none_at_all, takes_marked}
+use Rattle.session_queue.proofs.MarkLaws.{ids_apart, none_at_all, takes_marked}
 use Rattle.session_queue.proofs.queue.Queue.take_marked.Given.{Over}
 use Rattle.session_queue.proofs.queue.Queue.take_marked.Goals as goal
 
@@ -30,13 +30,16 @@ pub returns-clause-first : goal.returns-clause-first
 returns-clause-first g c = sym (taken_is_first _ _ _ (took g c))
 
 pub returns-clause-others : goal.returns-clause-others
-returns-clause-others g c =
-    let queue = c.self.inside in
-    let apart = subst AreApart (sym (ids-waiting_of queue.marks.entries queue.requests.items) ∙ ap ids c.self.view_is) c.self.invariant.apart in
-    taken_by_id _ _ _ apart (took g c)
+returns-clause-others g c = taken_by_id _ _ _ (ids_apart c.self.inside.marks.entries c.self.inside.requests.items _ c.self.view_is c.self.invariant) (took g c)
 
 pub returns-clause-marked : goal.returns-clause-marked
 returns-clause-marked g c = marked_falls _ _ _ (took g c)
 
 pub returns-clause-kept : goal.returns-clause-kept
 returns-clause-kept g c = kept_stays _ _ _ (took g c)
+
+pub returns-in_err-place-clause-apart : goal.returns-in_err-place-clause-apart
+returns-in_err-place-clause-apart g c = ids_apart c.self.inside.marks.entries c.self.inside.requests.items _ c.self.view_is c.self.invariant
+
+pub returns-clause-apart : goal.returns-clause-apart
+returns-clause-apart g c = ids_apart c.self.inside.marks.entries c.self.inside.requests.items _ c.self.view_is c.self.invariant
