@@ -49,7 +49,7 @@ impl<T> Queue<T> {
         }
     }
 
-    /// Lets a request wait behind the others.
+    /// Lets a request wait behind the others. Where there is no memory for it, it is let go.
     pub fn push(&mut self, waiting: Waiting<T>) -> Result<(), NoMemory>
     where
         T: Drop,
