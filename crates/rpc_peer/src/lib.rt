@@ -15,6 +15,6 @@ mod writing;
 
 pub use message::{ErrorObject, ID_LIMIT, Id, Message};
 pub use open_ids::{BeginFault, OpenIds};
-pub use reading::read_message;
+pub use reading::{read_id, read_message};
 pub use refusal::{INVALID_REQUEST, PARSE_ERROR, Refusal};
 pub use writing::write_message;

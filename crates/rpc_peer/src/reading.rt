@@ -134,7 +134,7 @@ fn call_with(id: Option<Value>, method: Text, params: Option<Value>) -> Option<M
 {
     match id {
         Some(id) => {
-            let id = id_in(id)?;
+            let id = read_id(id)?;
             Some(Message::Request { id, method, params })
         }
         None => Some(Message::Notification { method, params }),
@@ -173,7 +173,7 @@ fn answered_id(id: Option<Value>) -> Option<Option<Id>>
     match id {
         None => None,
         Some(Value::Null) => Some(None),
-        Some(id) => id_in(id).map(Some),
+        Some(id) => read_id(id).map(Some),
     }
 }
 
@@ -236,7 +236,8 @@ fn text_in(value: Value) -> Option<Text>
     }
 }
 
-fn id_in(value: Value) -> Option<Id>
+/// The id that a value is: a whole number of 64 bits or a short text, where it is one. Takes no memory.
+pub fn read_id(value: Value) -> Option<Id>
     ensures id { result ≡ id_in (view value) }
     ensures found { IfSome result IsId }
 {

@@ -1,0 +1,17 @@
+-- What is seen of a crew that does its jobs in a given order.
+use Rattle.std.specs.Prelude.{◌%◌, ℕ, List, [], ◌∷◌}
+use Rattle.worker_pool.specs.declared.script.ScriptCrew.{ScriptCrew}
+use Rattle.worker_pool.specs.Backlogs.{sight_of}
+use Rattle.worker_pool.specs.Crews.{Sight}
+
+abbrev pub script_sight : ScriptCrew → Sight
+script_sight crew = sight_of crew.backlog
+
+-- what is left of its order
+abbrev pub order_of : ScriptCrew → List ℕ
+order_of crew = crew.order.items
+
+-- the place that an order names among so many, and the first one behind its end
+abbrev pub place_in : List ℕ → ℕ → ℕ
+place_in [] count = 0
+place_in (n ∷ ns) count = n % count
