@@ -1,5 +1,6 @@
 """Talks to a build server as an editor does, and prints the exchange for a person to read. The workspace is
-a copy of examples/workspace, in which modules are broken and mended.
+a copy of examples/workspace, in which modules are broken and mended. At the end builds are cancelled, and it is told of
+each document whether it keeps what was shown of it or has what is new; a list that is neither ends the exchange.
 
 usage: exchange.py [--messages] PROGRAM
 
@@ -24,6 +25,12 @@ WORKSPACE = pathlib.Path(__file__).resolve().parent / "workspace"
 FAULTS = (
     ("shapes/Canvas.Mod", "Canvas.Mod assigns a number to a CHAR", "dots[y, x] := Blank", "dots[y, x] := 32"),
     ("shapes/Shapes.Mod", "Shapes.Mod calls the radius of a circle its size", "radius", "size"),
+)
+
+# What is broken, and mended, while compiles are cancelled: two modules, neither of which imports the other.
+CANCELLED = (
+    ("shapes/Canvas.Mod", "dots[y, x] := Blank", "dots[y, x] := 32"),
+    ("tests/PointsTest.Mod", "p.y = -3", "p.z = -3"),
 )
 
 SEVERITIES = {1: "error", 2: "warning", 3: "note", 4: "hint"}
@@ -138,6 +145,8 @@ class Client:
         self.targets = []
         # The names of the targets, by their ids.
         self.names = {}
+        # What is shown of each document in a target, by the paths of the documents and the ids of the targets.
+        self.table = {}
 
     def show(self, who, what, value, lines=()):
         """Prints a message, and what it says: its value as JSON, or else these lines."""
@@ -149,17 +158,38 @@ class Client:
         if self.is_whole or lines:
             print()
 
-    def send(self, message):
-        self.server.stdin.write(frame(message))
+    def send(self, *messages):
+        """Sends messages in one piece."""
+        self.server.stdin.write(b"".join(map(frame, messages)))
         self.server.stdin.flush()
 
-    def request(self, method, params=None):
+    def asked(self, method, params):
+        """A request, which is printed."""
         self.last_id += 1
         message = {"jsonrpc": "2.0", "id": self.last_id, "method": method}
         if params is not None:
             message["params"] = params
         self.show("client", f"request {self.last_id}: {method}", params)
-        self.send(message)
+        return message
+
+    def told(self, method, params=None):
+        """A notification, which is printed."""
+        self.show("client", f"notification: {method}", params)
+        message = {"jsonrpc": "2.0", "method": method}
+        return message if params is None else {**message, "params": params}
+
+    def request(self, method, params=None):
+        self.send(self.asked(method, params))
+        return self.answer()
+
+    def request_and_cancel(self, method, params):
+        """Asks for something, and cancels it before it is answered."""
+        request = self.asked(method, params)
+        self.send(request, self.told("$/cancelRequest", {"id": self.last_id}))
+        return self.answer()
+
+    def answer(self):
+        """The answer to the request that was sent last. What is told before it is printed."""
         while (answer := next_message(self.server.stdout)) is not None:
             if answer.get("id") == self.last_id and "method" not in answer:
                 self.show_answer(answer)
@@ -179,44 +209,111 @@ class Client:
     def show_told(self, message):
         """Prints what the server tells by itself."""
         method, params = message.get("method", "response"), message.get("params")
+        if method == "build/publishDiagnostics":
+            self.keep(params)
         if self.is_whole or not method.startswith("build/task"):
             self.show("server", method, params, self.lines_of(message))
         elif line := followed(method, params, self.folder.as_uri() + "/", self.names):
             self.show("server", line, params)
+
+    def keep(self, params):
+        """Keeps what a publication shows: all of a document in a target, or more of it."""
+        place = self.path_of(params), params["buildTarget"]["uri"]
+        before = [] if params["reset"] else self.table[place]
+        self.table[place] = before + params["diagnostics"]
+
+    def path_of(self, params):
+        """The path of the document that a publication is about."""
+        file = pathlib.Path(urllib.parse.unquote(urllib.parse.urlsplit(params["textDocument"]["uri"]).path))
+        return file.relative_to(self.folder)
 
     def lines_of(self, message):
         """What a publication says."""
         if message.get("method") != "build/publishDiagnostics":
             return []
         params = message["params"]
-        file = pathlib.Path(urllib.parse.unquote(urllib.parse.urlsplit(params["textDocument"]["uri"]).path))
-        path = file.relative_to(self.folder)
+        path = self.path_of(params)
+        file = self.folder / path
         text = file.read_bytes().decode(errors="replace") if file.is_file() else ""
         lines = [line for diagnostic in params["diagnostics"] for line in shown(diagnostic, path, text)]
         return lines or [f"{path} has no errors any more"]
 
     def notify(self, method):
-        self.show("client", f"notification: {method}", None)
-        self.send({"jsonrpc": "2.0", "method": method})
+        self.send(self.told(method))
 
     def status(self):
         self.server.stdin.close()
         return self.server.wait()
 
 
+def head(client, note):
+    print(f"-- {note}\n" if client.is_whole else f"\n-- {note}")
+
+
 def compile_all(client, note):
     """Compiles every target of the workspace that the client opened."""
-    print(f"-- {note}\n" if client.is_whole else f"\n-- {note}")
+    head(client, note)
     client.request("buildTarget/compile", {"targets": client.targets})
 
 
-def show_fault(client, path, note, right, wrong):
-    """Shows what it does to the workspace that a module has something wrong, and that it is mended."""
+def compile_none(client, note):
+    """Compiles every target too, but cancels that. Returns what was shown before, and what is shown then."""
+    head(client, note)
+    before = dict(client.table)
+    answer = client.request_and_cancel("buildTarget/compile", {"targets": client.targets})
+    if answer.get("result", {}).get("statusCode") != 3:
+        sys.exit("the compile isn't answered as cancelled")
+    return before, dict(client.table)
+
+
+def show_kept(client, before, between):
+    """Tells what a cancelled build left of each document's list, now that a whole build tells which one is new."""
+    head(client, "what the cancelled build left of each document's list:")
+    for place in sorted({*before, *between, *client.table}):
+        old, left, new = (table.get(place, []) for table in (before, between, client.table))
+        if left == old:
+            what = "kept its old list" if old != new else "kept its list, which is the new one too"
+        elif left == new:
+            what = "had its new list"
+        else:
+            sys.exit(f"{place[0]} had neither its old list nor its new one")
+        print(f"        {place[0]} {what}")
+    if client.is_whole:
+        print()
+
+
+def broken(client, path, right, wrong):
+    """Breaks a module, and returns its file and the text that it had."""
     module = client.folder / path
     text = module.read_text()
     if right not in text:
         sys.exit(f"{path} has no {right}")
     module.write_text(text.replace(right, wrong))
+    return module, text
+
+
+def show_cancel(client, note):
+    """Shows what a cancelled compile and a whole one behind it publish of the modules as they are."""
+    before, between = compile_none(client, f"{note}, and the compile is cancelled:")
+    compile_all(client, "the same, and the compile goes through:")
+    show_kept(client, before, between)
+
+
+def show_cancels(client):
+    """Shows a cancel where nothing is known of what changed, and one where that is known of one of two modules."""
+    first, second = CANCELLED
+    module, text = broken(client, *first)
+    show_cancel(client, f"{module.name} is broken")
+    module.write_text(text)
+    other, other_text = broken(client, *second)
+    show_cancel(client, f"{module.name} is mended and {other.name} is broken")
+    other.write_text(other_text)
+    compile_all(client, f"{other.name} is mended:")
+
+
+def show_fault(client, path, note, right, wrong):
+    """Shows what it does to the workspace that a module has something wrong, and that it is mended."""
+    module, text = broken(client, path, right, wrong)
     compile_all(client, f"{note}:")
     module.write_text(text)
     compile_all(client, f"{module.name} is mended:")
@@ -241,6 +338,7 @@ def show_session(client):
     compile_all(client, "nothing changed:")
     for fault in FAULTS:
         show_fault(client, *fault)
+    show_cancels(client)
     client.request("build/shutdown")
     client.notify("build/exit")
 

@@ -1,12 +1,13 @@
 -- Which status an order has.
-use Rattle.std.proofs.Common.{◌≡◌, ◌<◌, ◌≤◌, ℕ, ℤ, List, [], ◌∷◌, Bool, true, false, cond, IfSome, Result, Ok, Err, Some, None, refl, subst, arith, lit≤}
+use Rattle.std.proofs.Common.{◌≡◌, ◌++◌, ◌<◌, ◌≤◌, ℕ, ℤ, List, [], ◌∷◌, Bool, true, false, cond, IfSome, Result, Ok, Err, Some, None, refl, ap, subst, arith, lit≤}
 use Rattle.std.specs.Prelude.{codes}
+use Rattle.session_law.specs.declared.InputEnd.{InputEnd}
 use Rattle.session_law.specs.declared.InputEnd.TheVariants.{Border, Damaged, Failed}
 use Rattle.rpc_peer.specs.Meaning.{meaning}
 use Rattle.rpc_peer.specs.Said.{Said, request, notification, result, failure}
 use Rattle.session_law.specs.Methods.{is_named}
-use Rattle.session_law.specs.Order.{Event, take, ends, hand, write, end_of}
-use Rattle.session_law.specs.Past.{exit_status, closed_after, status_after}
+use Rattle.session_law.specs.Order.{Event, take, ends, hand, write, end_of, takes_of}
+use Rattle.session_law.specs.Past.{exit_status, closed_after, end_status, status_after}
 
 some_apart : (m n : ℕ) → m < n → Some m ≡ Some n → ⊥
 some_apart m n less same = let equal : m ≡ n = cc in omega arith
@@ -42,3 +43,18 @@ failed_end (ends Damaged ∷ order) three = absurd (some_apart 2 3 (omega arith)
 failed_end (ends Failed ∷ order) three = refl
 failed_end (hand handed ∷ order) three = failed_end order three
 failed_end (write m ∷ order) three = failed_end order three
+
+no_body : (xs : List (List ℕ)) (body : List ℕ) → xs ++ body ∷ [] ≡ [] → ⊥
+no_body [] body none = absurd cc
+no_body (x ∷ xs) body none = absurd cc
+
+some_same : (a b : InputEnd) → Some a ≡ Some b → a ≡ b
+some_same a b same = cc
+
+-- a session that was told of an end has its status
+pub status_ended : (events order : List Event) (how : InputEnd) → takes_of events ≡ [] → end_of events ≡ Some how → status_after (events ++ order) ≡ Some (end_status how)
+status_ended [] order how none is = absurd cc
+status_ended (take body ∷ events) order how none is = absurd (no_body (takes_of events) body none)
+status_ended (ends other ∷ events) order how none is = ap (λ (found : InputEnd). Some (end_status found)) (some_same other how is)
+status_ended (hand handed ∷ events) order how none is = status_ended events order how none is
+status_ended (write m ∷ events) order how none is = status_ended events order how none is

@@ -10,10 +10,9 @@ use Rattle.bsp_edge.proofs.StreamLaws.{gives_append, gives_nothing}
 use Rattle.rpc_peer.specs.Said.{Said}
 use Rattle.session_law.specs.declared.InputEnd.{InputEnd}
 use Rattle.session_law.specs.IsFramed.{text_of}
-use Rattle.session_law.specs.Order.{Event, take, ends, hand, write, takes_of, writes_of, hands_of, failures_of, end_of}
-use Rattle.session_core.specs.Standing.{onto}
-use Rattle.session_core.proofs.StandingLaws.{writes_of-onto, hands_of-onto, failures_of-onto}
-use Rattle.bsp_cli.specs.Outside.{Told, told, Tells}
+use Rattle.session_law.specs.Order.{Event, onto, take, ends, hand, write, takes_of, writes_of, hands_of, failures_of, end_of}
+use Rattle.bsp_cli.proofs.OntoLaws.{writes_of-onto, hands_of-onto, failures_of-onto}
+use Rattle.bsp_cli.specs.Outside.{Told, Tells}
 use Rattle.bsp_cli.specs.Session.{RoseBy}
 
 -- ---- the later events stand in front
@@ -56,10 +55,13 @@ end_of-append (ends how ∷ later) earlier none = absurd cc
 end_of-append (hand handed ∷ later) earlier none = end_of-append later earlier none
 end_of-append (write m ∷ later) earlier none = end_of-append later earlier none
 
--- messages that are written behind events are written behind these events of an order
-pub onto-append : (messages : List Said) (events order : List Event) → onto messages events ++ order ≡ onto messages (events ++ order)
-onto-append [] events order = refl
-onto-append (m ∷ messages) events order = onto-append messages (write m ∷ events) order
+-- an end that was found stays
+pub end_of-ended : (later earlier : List Event) (how : InputEnd) → end_of later ≡ Some how → end_of (later ++ earlier) ≡ Some how
+end_of-ended [] earlier how is = absurd cc
+end_of-ended (take body ∷ later) earlier how is = end_of-ended later earlier how is
+end_of-ended (ends other ∷ later) earlier how is = is
+end_of-ended (hand handed ∷ later) earlier how is = end_of-ended later earlier how is
+end_of-ended (write m ∷ later) earlier how is = end_of-ended later earlier how is
 
 -- ---- what the tree and the output tell
 
@@ -93,6 +95,16 @@ tells_append earlier later tail a b c first second =
       put = subst (λ bytes. Gives a.given c.given bytes) (sym whole) (gives_append a.given b.given c.given (flat_map text_of (writes_of earlier)) (flat_map text_of (writes_of later) ++ tail) before second.put);
     }
 
+-- messages that are written
+pub tells_messages : (messages : List Said) (tail : List ℕ) (a b : Told) → Hands a.handed b.handed [] → RoseBy 0 a.faults b.faults → Gives a.given b.given (flat_map text_of messages ++ tail)
+    → Tells (onto messages []) tail a b
+tells_messages messages tail a b hands failures put =
+    record {
+      hands = subst (λ snapshots. Hands a.handed b.handed snapshots) (sym (hands_of-onto messages [])) hands;
+      failures = subst (λ n. RoseBy n a.faults b.faults) (sym (failures_of-onto messages [])) failures;
+      put = subst (λ w. Gives a.given b.given (flat_map text_of w ++ tail)) (sym (writes_of-onto messages [])) put;
+    }
+
 -- an event that is no write, and messages that are written behind it
 pub tells_onto : (event : Event) (messages : List Said) (tail : List ℕ) (a b : Told) → writes_of (event ∷ []) ≡ [] → Hands a.handed b.handed (hands_of (event ∷ [])) → RoseBy (failures_of (event ∷ [])) a.faults b.faults
     → Gives a.given b.given (flat_map text_of messages ++ tail) → Tells (onto messages (event ∷ [])) tail a b
@@ -118,11 +130,3 @@ hands_same old new same = rw same (hands_nothing old)
 
 pub rose_never : (f g : ℕ) → g ≡ f → RoseBy 0 f g
 rose_never f g same = rw same (unasked f)
-
--- the end of the input, and messages that are written behind it, in an order
-pub tells_end : (order : List Event) (how : InputEnd) (messages : List Said) (tail : List ℕ) (start middle : Told) (given : Option (List ℕ)) → Tells order [] start middle
-    → Gives middle.given given (flat_map text_of messages ++ tail) → Tells (onto messages (ends how ∷ order)) tail start (told given middle.handed middle.faults)
-tells_end order how messages tail start middle given so put =
-    let behind = tells_onto (ends how) messages tail middle (told given middle.handed middle.faults) refl (hands_nothing middle.handed) (unasked middle.faults) put in
-    subst (λ events. Tells events tail start (told given middle.handed middle.faults)) (onto-append messages (ends how ∷ []) order)
-    (tells_append order (onto messages (ends how ∷ [])) tail start middle (told given middle.handed middle.faults) so behind)

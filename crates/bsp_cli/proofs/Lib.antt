@@ -1,8 +1,15 @@
 pub mod CourseLaws
 pub mod EndLaws
 pub mod EventLaws
+pub mod HeardLaws
+pub mod NeedLaws
+pub mod OntoLaws
+pub mod PatienceLaws
 pub mod ProgressLaws
 pub mod RunLaws
 pub mod SessionLaws
+pub mod ShareLaws
+pub mod TurnLaws
+pub mod WaitLaws
 pub mod WordLaws
 pub mod WritingLaws

@@ -1,53 +1,54 @@
--- How a session comes further.
-use Rattle.std.proofs.Common.{◌≡◌, ◌+◌, ◌++◌, ℕ, List, [], ◌∷◌, length, Option, refl, sym, ap, ◌∙◌, subst, arith, append-nil, length-append}
-use Rattle.bsp_edge.specs.Streams.{Takes}
-use Rattle.bsp_edge.proofs.StreamLaws.{takes_append}
+-- How a session comes further, frame by frame.
+use Rattle.std.proofs.Common.{◌≡◌, ◌+◌, ◌++◌, ℕ, List, [], ◌∷◌, length, None, refl, sym, ap, ◌∙◌, subst, arith, append-nil, length-append}
 use Rattle.rpc_frame.specs.Frames.{BeginsWith, HasNoFrame, IsBorder, FramesTo, IsSound, Waiting}
 use Rattle.rpc_frame.specs.declared.damage.Damage.{Damage}
 use Rattle.rpc_frame.specs.Damages.{DamageAt, HasDamage}
 use Rattle.rpc_frame.proofs.BrokenLaws.{broken_damaged}
 use Rattle.rpc_frame.proofs.DamageLaws.{damage_behind, damage_broken, damage_kind, damage_place}
-use Rattle.rpc_frame.proofs.FrameLaws.{FramesTo-append, frames_more, sound_behind as sound_behind_frames, broken_rest, rest_no_border}
+use Rattle.rpc_frame.proofs.FrameLaws.{FramesTo-append, sound_behind as sound_behind_frames, broken_rest, rest_no_border}
 use Rattle.session_law.specs.Order.{Event, takes_of}
 use Rattle.session_core.specs.declared.session.Core.{Core}
-use Rattle.session_core.proofs.StandingLaws.{stood_lawful}
-use Rattle.bsp_cli.specs.Progress.{Progress, Stopped, fed}
-use Rattle.bsp_cli.specs.Outside.{Told}
+use Rattle.session_core.proofs.AtRest.{stood_lawful}
+use Rattle.session_law.specs.Verdicts.{IsBare}
+use Rattle.bsp_cli.specs.Progress.{Progress, Stopped, fed, with_piece}
+use Rattle.bsp_cli.specs.Outside.{Heard, Told}
 use Rattle.bsp_cli.specs.Writing.{GoesThrough, Stops}
 use Rattle.bsp_cli.proofs.EventLaws.{takes_of-append, end_of-append, tells_append}
+use Rattle.bsp_cli.proofs.HeardLaws.{acts_course, patient_course, prompt_course}
 
 -- one frame and then such bytes
 one_frame : (bytes body after : List ℕ) → BeginsWith bytes body after → FramesTo bytes (body ∷ []) after
 one_frame bytes body after begins = record { after = after; begins = begins; others = refl }
 
-module _ (c d : Core) (old new : Waiting) (body : List ℕ) (left0 left : Option (List ℕ)) (start before behind : Told) (begins : BeginsWith old.bytes body new.bytes) (same : fed new ≡ fed old)
-    (so : Progress c old left0 left start before) where
+module _ (c d : Core) (old new : Waiting) (body : List ℕ) (from to : Heard) (start before behind : Told) (begins : BeginsWith old.bytes body new.bytes) (same : fed new ≡ fed old)
+    (so : Progress c old from to start before) where
   joined_frames : (events : List Event) → takes_of events ≡ body ∷ [] → FramesTo so.read (takes_of (events ++ so.order)) new.bytes
   joined_frames events takes =
       subst (λ bodies. FramesTo so.read bodies new.bytes) (sym (takes_of-append events so.order ∙ ap (λ bodies. takes_of so.order ++ bodies) takes))
       (FramesTo-append so.read (takes_of so.order) (body ∷ []) old.bytes new.bytes so.frames (one_frame old.bytes body new.bytes begins))
 
   -- a frame that waited was acted on
-  pub progress_acts : GoesThrough c d (body ∷ []) before behind → Progress d new left0 left start behind
+  pub progress_acts : GoesThrough IsBare c d (body ∷ []) None before behind → Progress d new from to start behind
   progress_acts steps =
       record {
         order = steps.events ++ so.order;
         stands = steps.stands so.order so.stands;
-        unended = end_of-append steps.events so.order steps.unended ∙ so.unended;
+        unended = end_of-append steps.events so.order steps.ended ∙ so.unended;
         read = so.read;
         consumed = so.consumed;
         frames = joined_frames steps.events steps.takes;
         count = so.count ∙ sym same;
         tells = tells_append so.order steps.events [] start before behind so.tells steps.tells;
+        course = acts_course steps.events so.order so.read from to steps.such so.course;
       }
 
   -- a frame that waited was taken, and the session had to stop
-  pub stopped_at : Stops c (body ∷ []) before behind → Stopped new.given_end left0 left start behind
+  pub stopped_at : Stops IsBare c (body ∷ []) None before behind → Stopped new.given_end from to start behind
   stopped_at stops =
       record {
         order = stops.events ++ so.order;
         lawful = stops.lawful so.order so.stands;
-        unended = end_of-append stops.events so.order stops.unended ∙ so.unended;
+        unended = end_of-append stops.events so.order stops.ended ∙ so.unended;
         read = so.read;
         consumed = so.consumed;
         waiting = new.bytes;
@@ -56,11 +57,13 @@ module _ (c d : Core) (old new : Waiting) (body : List ℕ) (left0 left : Option
         tail = stops.tail;
         tells = tells_append so.order stops.events stops.tail start before behind so.tells stops.tells;
         cut = stops.cut;
+        patient = patient_course (stops.events ++ so.order) so.read from to (acts_course stops.events so.order so.read from to stops.such so.course);
+        prompt = prompt_course (stops.events ++ so.order) so.read from to (acts_course stops.events so.order so.read from to stops.such so.course);
       }
 
 -- the session stops where it stands
-pub stopped_here : (core : Core) (stream : Waiting) (left0 left : Option (List ℕ)) (start now : Told) → Progress core stream left0 left start now → Stopped stream.given_end left0 left start now
-stopped_here core stream left0 left start now so =
+pub stopped_here : (core : Core) (stream : Waiting) (from to : Heard) (start now : Told) → Progress core stream from to start now → Stopped stream.given_end from to start now
+stopped_here core stream from to start now so =
     record {
       order = so.order;
       lawful = stood_lawful core so.order so.stands;
@@ -73,6 +76,8 @@ stopped_here core stream left0 left start now so =
       tail = [];
       tells = so.tells;
       cut = λ some. absurd (some refl);
+      patient = patient_course so.order so.read from to so.course;
+      prompt = prompt_course so.order so.read from to so.course;
     }
 
 -- what stands behind a frame is sound, or broken, as the whole is
@@ -101,39 +106,10 @@ pub border_empty : (bytes : List ℕ) → HasNoFrame bytes → IsBorder bytes �
 border_empty [] none border = refl
 border_empty (b ∷ bytes) none border = absurd (rest_no_border (b ∷ bytes) [] (b ∷ bytes) refl none (omega arith) border)
 
--- a piece was read, which the decoder has
-pub progress_feeds : (c d : Core) (old new : Waiting) (piece : List ℕ) (left0 left more : Option (List ℕ)) (start now : Told) → d ≡ c → new ≡ record old { bytes = old.bytes ++ piece } → Takes left more piece
-    → Progress c old left0 left start now → Progress d new left0 more start now
-progress_feeds c d old new piece left0 left more start now same stream taken so =
-    rw (same, stream) (record {
-      order = so.order;
-      stands = so.stands;
-      unended = so.unended;
-      read = so.read ++ piece;
-      consumed = takes_append left0 left more so.read piece so.consumed taken;
-      frames = frames_more so.read (takes_of so.order) old.bytes piece so.frames;
-      count = omega (arith, so.count, length-append so.read piece, length-append old.bytes piece);
-      tells = so.tells;
-    })
+-- the decoder has the piece that was read
+pub progress_fed : (c d : Core) (old new : Waiting) (piece : List ℕ) (from to : Heard) (start now : Told) → d ≡ c → new ≡ with_piece piece old → Progress c (with_piece piece old) from to start now → Progress d new from to start now
+progress_fed c d old new piece from to start now same stream so = rw (same, stream) so
 
--- a piece was read, which the decoder found no memory for
-pub stopped_feeding : (core : Core) (old new : Waiting) (piece : List ℕ) (left0 left more : Option (List ℕ)) (start now : Told) → new ≡ old → Takes left more piece → Progress core old left0 left start now
-    → Stopped new.given_end left0 more start now
-stopped_feeding core old new piece left0 left more start now same taken so =
-    rw same (record {
-      order = so.order;
-      lawful = stood_lawful core so.order so.stands;
-      unended = so.unended;
-      read = so.read ++ piece;
-      consumed = takes_append left0 left more so.read piece so.consumed taken;
-      waiting = old.bytes ++ piece;
-      frames = frames_more so.read (takes_of so.order) old.bytes piece so.frames;
-      count = omega (arith, so.count, length-append so.read piece, length-append old.bytes piece);
-      tail = [];
-      tells = so.tells;
-      cut = λ some. absurd (some refl);
-    })
-
--- nothing was read
-pub progress_same : (core : Core) (stream : Waiting) (left0 left more : Option (List ℕ)) (start now : Told) → Progress core stream left0 left start now → more ≡ left → Progress core stream left0 more start now
-progress_same core stream left0 left more start now so same = rw same so
+-- it found no memory for the piece
+pub stopped_feeding : (core : Core) (old new : Waiting) (piece : List ℕ) (from to : Heard) (start now : Told) → new ≡ old → Progress core (with_piece piece old) from to start now → Stopped new.given_end from to start now
+stopped_feeding core old new piece from to start now same so = rw same (stopped_here core (with_piece piece old) from to start now so)

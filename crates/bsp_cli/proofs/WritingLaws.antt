@@ -1,6 +1,7 @@
 -- How what is written piece by piece, or message by message, joins.
-use Rattle.std.proofs.Common.{◌≡◌, ◌++◌, ◌<◌, ℕ, List, [], ◌∷◌, length, take, drop, flat_map, Option, None, Result, Ok, Err, IfOk, OnOk, OnErr, IsErrOf, refl, sym, ap, ◌∙◌, subst, arith, append_assoc, append-nil, length-append}
+use Rattle.std.proofs.Common.{◌≡◌, ◌++◌, ◌<◌, ℕ, List, [], ◌∷◌, length, take, drop, flat_map, map, Option, Some, None, Result, Ok, Err, All, IfOk, OnOk, OnErr, IsErrOf, refl, sym, ap, ◌∙◌, subst, arith, append_assoc, append-nil, length-append}
 use Rattle.std.proofs.lemmas.List.{take-append-drop}
+use Rattle.std.proofs.lemmas.List.Elements.{All-append, All-cons, All-head, All-nil, All-tail}
 use Rattle.bsp_edge.specs.Handing.{Hands}
 use Rattle.bsp_edge.specs.Streams.{Gives}
 use Rattle.bsp_edge.specs.Writing.{TookFront}
@@ -9,17 +10,21 @@ use Rattle.bsp_edge.proofs.StreamLaws.{gives_append, gives_nothing}
 use Rattle.rpc_peer.specs.Said.{Said}
 use Rattle.session_law.specs.IsFramed.{IsFramed, text_of}
 use Rattle.session_law.specs.Lawful.{Lawful}
-use Rattle.session_law.specs.Order.{Event, take as takes_body, hand, write, takes_of, writes_of, hands_of, failures_of, end_of}
+use Rattle.session_law.specs.Order.{Event, onto, take as takes_body, ends as ends_so, hand, write, takes_of, writes_of, hands_of, failures_of, end_of}
 use Rattle.ob_text.specs.Held.{Entries}
-use Rattle.session_core.specs.Standing.{StandsFor, onto}
+use Rattle.session_core.specs.Standing.{StandsFor, IsQuiet}
+use Rattle.session_core.specs.State.{said_out}
 use Rattle.session_core.specs.declared.session.Core.{Core}
-use Rattle.session_core.proofs.StandingLaws.{stood_lawful, onto-push, takes_of-onto, end_of-onto}
+use Rattle.session_core.proofs.AtRest.{stood_lawful}
+use Rattle.session_build.specs.Outgoing.{outgoing_said}
+use Rattle.session_law.specs.declared.InputEnd.{InputEnd}
+use Rattle.bsp_cli.proofs.OntoLaws.{onto-append, onto-push, takes_of-onto, end_of-onto, writes_of-onto}
 use Rattle.bsp_cli.specs.declared.stop.Stop.{Stop}
 use Rattle.bsp_cli.specs.declared.stop.Stop.TheVariants.{Sink, NoMemory}
 use Rattle.bsp_cli.specs.Outside.{Told, told}
 use Rattle.bsp_cli.specs.Session.{RoseBy}
-use Rattle.bsp_cli.specs.Writing.{ActsThrough, Flushes, GivesFront, GivesSoFar, Halts, HaltsAt, Sends, GoesThrough, Stops}
-use Rattle.bsp_cli.proofs.EventLaws.{onto-append, takes_of-append, end_of-append, tells_append, tells_nothing, tells_onto, unasked}
+use Rattle.bsp_cli.specs.Writing.{ActsThrough, Flushes, GivesFront, GivesSoFar, Halts, HaltsAt, IsAny, Sends, GoesThrough, Stops}
+use Rattle.bsp_cli.proofs.EventLaws.{takes_of-append, writes_of-append, end_of-append, tells_append, tells_messages, tells_nothing, tells_onto, unasked}
 
 pub starts : (given : Option (List ℕ)) (bytes : List ℕ) → GivesSoFar given given bytes bytes
 starts given bytes = record { front = []; whole = refl; given = gives_nothing given }
@@ -96,6 +101,10 @@ pub on_ok_then : {A E : Type 0} (r : Result A E) (P Q : Type 0) → (P → Q) �
 on_ok_then (Ok a) P Q next p = next p
 on_ok_then (Err e) P Q next p = tt
 
+pub on_ok_both : {A E : Type 0} (r : Result A E) (P Q R : Type 0) → (P → Q → R) → OnOk r P → OnOk r Q → OnOk r R
+on_ok_both (Ok a) P Q R next p q = next p q
+on_ok_both (Err e) P Q R next p q = tt
+
 pub on_ok : {A E : Type 0} (r : Result A E) (P : Type 0) → P → OnOk r P
 on_ok (Ok a) P p = p
 on_ok (Err e) P p = tt
@@ -112,30 +121,42 @@ pub if_ok_with : {A E : Type 0} (r : Result A E) (C : Type 0) (P Q : A → Type 
 if_ok_with (Ok a) C P Q next fact p = next a fact p
 if_ok_with (Err e) C P Q next fact p = tt
 
+pub if_ok_both : {A E : Type 0} (r : Result A E) (C : Type 0) (P Q : A → Type 0) → ((a : A) → C → P a → Q a) → OnOk r C → IfOk r P → IfOk r Q
+if_ok_both (Ok a) C P Q next fact p = next a fact p
+if_ok_both (Err e) C P Q next fact p = tt
+
 -- ---- messages
 
 pub flat_map-push : (messages : List Said) (m : Said) → flat_map text_of (messages ++ m ∷ []) ≡ flat_map text_of messages ++ text_of m
 flat_map-push [] m = append-nil (text_of m)
 flat_map-push (first ∷ messages) m = ap (λ r. text_of first ++ r) (flat_map-push messages m) ∙ sym (append_assoc (text_of first) (flat_map text_of messages) (text_of m))
 
-pub flushes_start : (core : Core) (given : Option (List ℕ)) → Flushes core core given given
-flushes_start core given = record { messages = []; stands = λ order stands. stands; put = gives_nothing given }
+-- ---- a core that writes
 
-module _ (b c d : Core) (f g h : Option (List ℕ)) (m : Said) (so : Flushes b c f g) where
+pub flushes_start : (core : Core) (given : Option (List ℕ)) → Flushes core core given given
+flushes_start core given = record { messages = []; all = refl; stands = λ order stands. stands; put = gives_nothing given }
+
+module _ (b c d : Core) (f g h : Option (List ℕ)) (m : Said) (so : Flushes b c f g) (next_is : said_out c ≡ m ∷ said_out d) where
+  one_more : said_out b ≡ (so.messages ++ m ∷ []) ++ said_out d
+  one_more = so.all ∙ (ap (λ rest. so.messages ++ rest) next_is ∙ sym (append_assoc so.messages (m ∷ []) (said_out d)))
+
   -- one more message was written
   pub flushes_more : ((order : List Event) → StandsFor c order → StandsFor d (write m ∷ order)) → Gives g h (text_of m) → Flushes b d f h
   flushes_more next put =
       record {
         messages = so.messages ++ m ∷ [];
+        all = one_more;
         stands = λ order stands. subst (λ behind. StandsFor d behind) (sym (onto-push so.messages m order)) (next (onto so.messages order) (so.stands order stands));
         put = subst (λ bytes. Gives f h bytes) (sym (flat_map-push so.messages m)) (gives_append f g h (flat_map text_of so.messages) (text_of m) so.put put);
       }
 
   -- a message was written in part
-  pub halts_inside : IsFramed m → GivesFront g h (text_of m) → Halts b f h
+  halts_inside : IsFramed m → GivesFront g h (text_of m) → Halts b f h
   halts_inside framed put =
       record {
         messages = so.messages;
+        unwritten = said_out c;
+        all = so.all;
         tail = put.front;
         lawful = λ order stands. stood_lawful c (onto so.messages order) (so.stands order stands);
         put = gives_append f g h (flat_map text_of so.messages) put.front so.put put.given;
@@ -143,10 +164,12 @@ module _ (b c d : Core) (f g h : Option (List ℕ)) (m : Said) (so : Flushes b c
       }
 
   -- a message was not written
-  pub halts_before : h ≡ g → Halts b f h
+  halts_before : h ≡ g → Halts b f h
   halts_before same =
       record {
         messages = so.messages;
+        unwritten = said_out c;
+        all = so.all;
         tail = [];
         lawful = λ order stands. stood_lawful c (onto so.messages order) (so.stands order stands);
         put = subst (λ last. Gives f last (flat_map text_of so.messages ++ [])) (sym same) (subst (λ bytes. Gives f g bytes) (sym (append-nil (flat_map text_of so.messages))) so.put);
@@ -158,21 +181,54 @@ module _ (b c d : Core) (f g h : Option (List ℕ)) (m : Said) (so : Flushes b c
   halts_by Sink framed sends = halts_inside framed sends
   halts_by NoMemory framed sends = halts_before sends
 
+-- all was written
+pub flushes_end : (b c d : Core) (f g : Option (List ℕ)) → Flushes b c f g → IsQuiet c → IsQuiet d → ((order : List Event) → StandsFor c order → StandsFor d order) → Flushes b d f g
+flushes_end b c d f g so quiet still keeps =
+    record {
+      messages = so.messages;
+      all = so.all ∙ ap (λ rest. so.messages ++ rest) (ap (map outgoing_said) quiet ∙ sym (ap (map outgoing_said) still));
+      stands = λ order stands. keeps (onto so.messages order) (so.stands order stands);
+      put = so.put;
+    }
+
 -- ---- events
 
-module _ (c d e : Core) (f g : Option (List ℕ)) (event : Event) (next : (order : List Event) → StandsFor c order → StandsFor d (event ∷ order)) where
-  pub acts_by : Flushes d e f g → ActsThrough c e event f g
-  acts_by so = record { messages = so.messages; stands = λ order stands. so.stands (event ∷ order) (next order stands); put = so.put }
+-- of what is such, each part is
+all_front : (Such : Said → Type 0) (xs ys : List Said) → All Such (xs ++ ys) → All Such xs
+all_front Such [] ys all = All-nil Such
+all_front Such (x ∷ xs) ys all = All-cons Such x xs (All-head Such x (xs ++ ys) all) (all_front Such xs ys (All-tail Such x (xs ++ ys) all))
 
-  pub halts_at : Halts d f g → HaltsAt c event f g
+any_all : (messages : List Said) → All IsAny messages
+any_all [] = All-nil IsAny
+any_all (m ∷ messages) = All-cons IsAny m messages tt (any_all messages)
+
+module _ (Such : Said → Type 0) (c d e : Core) (f g : Option (List ℕ)) (event : Event) (such : All Such (said_out d)) (next : (order : List Event) → StandsFor c order → StandsFor d (event ∷ order)) where
+  pub acts_by : Flushes d e f g → ActsThrough Such c e event f g
+  acts_by so =
+      record {
+        messages = so.messages;
+        such = all_front Such so.messages (said_out e) (subst (All Such) so.all such);
+        stands = λ order stands. so.stands (event ∷ order) (next order stands);
+        put = so.put;
+      }
+
+  pub halts_at : Halts d f g → HaltsAt Such c event f g
   halts_at so =
-      record { messages = so.messages; tail = so.tail; lawful = λ order stands. so.lawful (event ∷ order) (next order stands); put = so.put; cut = so.cut }
+      record {
+        messages = so.messages;
+        such = all_front Such so.messages so.unwritten (subst (All Such) so.all such);
+        tail = so.tail;
+        lawful = λ order stands. so.lawful (event ∷ order) (next order stands);
+        put = so.put;
+        cut = so.cut;
+      }
 
 -- the core found no memory at the event
-pub halts_lost : (c d : Core) (given : Option (List ℕ)) (event : Event) → ((order : List Event) → StandsFor c order → StandsFor d (event ∷ order)) → HaltsAt c event given given
-halts_lost c d given event next =
+pub halts_lost : (Such : Said → Type 0) (c d : Core) (given : Option (List ℕ)) (event : Event) → ((order : List Event) → StandsFor c order → StandsFor d (event ∷ order)) → HaltsAt Such c event given given
+halts_lost Such c d given event next =
     record {
       messages = [];
+      such = All-nil Such;
       tail = [];
       lawful = λ order stands. stood_lawful d (event ∷ order) (next order stands);
       put = gives_nothing given;
@@ -181,87 +237,172 @@ halts_lost c d given event next =
 
 -- ---- steps
 
-module _ (c : Core) (event : Event) (bodies : List (List ℕ)) (a b : Told) (no_write : writes_of (event ∷ []) ≡ []) (takes : takes_of (event ∷ []) ≡ bodies) (unended : end_of (event ∷ []) ≡ None)
-    (hands : Hands a.handed b.handed (hands_of (event ∷ []))) (failures : RoseBy (failures_of (event ∷ [])) a.faults b.faults) where
-  steps_by : (d : Core) → ActsThrough c d event a.given b.given → GoesThrough c d bodies a b
+module _ (Such : Said → Type 0) (c : Core) (event : Event) (bodies : List (List ℕ)) (end : Option InputEnd) (a b : Told) (no_write : writes_of (event ∷ []) ≡ []) (takes : takes_of (event ∷ []) ≡ bodies)
+    (ended : end_of (event ∷ []) ≡ end) (hands : Hands a.handed b.handed (hands_of (event ∷ []))) (failures : RoseBy (failures_of (event ∷ [])) a.faults b.faults) where
+  writes_such : (messages : List Said) → All Such messages → All Such (writes_of (onto messages (event ∷ [])))
+  writes_such messages such = subst (All Such) (sym (writes_of-onto messages (event ∷ []) ∙ ap (λ w. w ++ messages) no_write)) such
+
+  steps_by : (d : Core) → ActsThrough Such c d event a.given b.given → GoesThrough Such c d bodies end a b
   steps_by d acts =
       record {
         events = onto acts.messages (event ∷ []);
         stands = λ order stands. subst (λ behind. StandsFor d behind) (sym (onto-append acts.messages (event ∷ []) order)) (acts.stands order stands);
         takes = takes_of-onto acts.messages (event ∷ []) ∙ takes;
-        unended = end_of-onto acts.messages (event ∷ []) ∙ unended;
+        ended = end_of-onto acts.messages (event ∷ []) ∙ ended;
+        such = writes_such acts.messages acts.such;
         tells = tells_onto event acts.messages [] a b no_write hands failures (subst (λ bytes. Gives a.given b.given bytes) (sym (append-nil (flat_map text_of acts.messages))) acts.put);
       }
 
-  stops_by : HaltsAt c event a.given b.given → Stops c bodies a b
+  stops_by : HaltsAt Such c event a.given b.given → Stops Such c bodies end a b
   stops_by halts =
       record {
         events = onto halts.messages (event ∷ []);
         lawful = λ order stands. subst (λ behind. Lawful behind) (sym (onto-append halts.messages (event ∷ []) order)) (halts.lawful order stands);
         takes = takes_of-onto halts.messages (event ∷ []) ∙ takes;
-        unended = end_of-onto halts.messages (event ∷ []) ∙ unended;
+        ended = end_of-onto halts.messages (event ∷ []) ∙ ended;
+        such = writes_such halts.messages halts.such;
         tail = halts.tail;
         tells = tells_onto event halts.messages halts.tail a b no_write hands failures halts.put;
         cut = halts.cut;
       }
 
 -- a body was taken, and the tree wasn't asked
-module _ (c : Core) (body : List ℕ) (handed : Option (List Entries)) (faults : ℕ) (given next : Option (List ℕ)) where
-  pub steps_take : (d : Core) → ActsThrough c d (takes_body body) given next → GoesThrough c d (body ∷ []) (told given handed faults) (told next handed faults)
-  steps_take d acts = steps_by c (takes_body body) (body ∷ []) (told given handed faults) (told next handed faults) refl refl refl (hands_nothing handed) (unasked faults) d acts
+module _ (Such : Said → Type 0) (c : Core) (body : List ℕ) (handed : Option (List Entries)) (faults : ℕ) (given next : Option (List ℕ)) where
+  pub steps_take : (d : Core) → ActsThrough Such c d (takes_body body) given next → GoesThrough Such c d (body ∷ []) None (told given handed faults) (told next handed faults)
+  steps_take d acts = steps_by Such c (takes_body body) (body ∷ []) None (told given handed faults) (told next handed faults) refl refl refl (hands_nothing handed) (unasked faults) d acts
 
-  pub stops_take : HaltsAt c (takes_body body) given next → Stops c (body ∷ []) (told given handed faults) (told next handed faults)
-  stops_take halts = stops_by c (takes_body body) (body ∷ []) (told given handed faults) (told next handed faults) refl refl refl (hands_nothing handed) (unasked faults) halts
+  pub stops_take : HaltsAt Such c (takes_body body) given next → Stops Such c (body ∷ []) None (told given handed faults) (told next handed faults)
+  stops_take halts = stops_by Such c (takes_body body) (body ∷ []) None (told given handed faults) (told next handed faults) refl refl refl (hands_nothing handed) (unasked faults) halts
+
+-- the input ended, and the tree wasn't asked
+module _ (Such : Said → Type 0) (c : Core) (how : InputEnd) (handed : Option (List Entries)) (faults : ℕ) (given next : Option (List ℕ)) where
+  pub steps_end : (d : Core) → ActsThrough Such c d (ends_so how) given next → GoesThrough Such c d [] (Some how) (told given handed faults) (told next handed faults)
+  steps_end d acts = steps_by Such c (ends_so how) [] (Some how) (told given handed faults) (told next handed faults) refl refl refl (hands_nothing handed) (unasked faults) d acts
+
+  pub stops_end : HaltsAt Such c (ends_so how) given next → Stops Such c [] (Some how) (told given handed faults) (told next handed faults)
+  stops_end halts = stops_by Such c (ends_so how) [] (Some how) (told given handed faults) (told next handed faults) refl refl refl (hands_nothing handed) (unasked faults) halts
 
 -- the tree was asked
-module _ (c : Core) (got : Option Entries) (a b : Told) (hands : Hands a.handed b.handed (hands_of (hand got ∷ []))) (failures : RoseBy (failures_of (hand got ∷ [])) a.faults b.faults) where
-  pub steps_hand : (d : Core) → ActsThrough c d (hand got) a.given b.given → GoesThrough c d [] a b
-  steps_hand d acts = steps_by c (hand got) [] a b refl refl refl hands failures d acts
+module _ (Such : Said → Type 0) (c : Core) (got : Option Entries) (a b : Told) (hands : Hands a.handed b.handed (hands_of (hand got ∷ []))) (failures : RoseBy (failures_of (hand got ∷ [])) a.faults b.faults) where
+  pub steps_hand : (d : Core) → ActsThrough Such c d (hand got) a.given b.given → GoesThrough Such c d [] None a b
+  steps_hand d acts = steps_by Such c (hand got) [] None a b refl refl refl hands failures d acts
 
-  pub stops_hand : HaltsAt c (hand got) a.given b.given → Stops c [] a b
-  stops_hand halts = stops_by c (hand got) [] a b refl refl refl hands failures halts
+  pub stops_hand : HaltsAt Such c (hand got) a.given b.given → Stops Such c [] None a b
+  stops_hand halts = stops_by Such c (hand got) [] None a b refl refl refl hands failures halts
+
+-- messages were written of a core that keeps what another stood for
+module _ (b c : Core) (given next : Option (List ℕ)) (keeps : (order : List Event) → StandsFor b order → StandsFor c order) (handed : Option (List Entries)) (faults : ℕ) where
+  pub steps_flushed : (d : Core) → Flushes c d given next → GoesThrough IsAny b d [] None (told given handed faults) (told next handed faults)
+  steps_flushed d so =
+      record {
+        events = onto so.messages [];
+        stands = λ order stands. subst (λ behind. StandsFor d behind) (sym (onto-append so.messages [] order)) (so.stands order (keeps order stands));
+        takes = takes_of-onto so.messages [];
+        ended = end_of-onto so.messages [];
+        such = any_all (writes_of (onto so.messages []));
+        tells = tells_messages so.messages [] (told given handed faults) (told next handed faults) (hands_nothing handed) (unasked faults)
+            (subst (λ bytes. Gives given next bytes) (sym (append-nil (flat_map text_of so.messages))) so.put);
+      }
+
+  pub stops_flushed : Halts c given next → Stops IsAny b [] None (told given handed faults) (told next handed faults)
+  stops_flushed so =
+      record {
+        events = onto so.messages [];
+        lawful = λ order stands. subst (λ behind. Lawful behind) (sym (onto-append so.messages [] order)) (so.lawful order (keeps order stands));
+        takes = takes_of-onto so.messages [];
+        ended = end_of-onto so.messages [];
+        such = any_all (writes_of (onto so.messages []));
+        tail = so.tail;
+        tells = tells_messages so.messages so.tail (told given handed faults) (told next handed faults) (hands_nothing handed) (unasked faults) so.put;
+        cut = so.cut;
+      }
+
+-- whatever the tree tells, an outcome doesn't change it
+module _ (b c : Core) (given next : Option (List ℕ)) (keeps : (order : List Event) → StandsFor b order → StandsFor c order) where
+  pub outcome_steps : (d : Core) → Flushes c d given next → (handed : Option (List Entries)) (faults : ℕ) → GoesThrough IsAny b d [] None (told given handed faults) (told next handed faults)
+  outcome_steps d so = λ handed faults. steps_flushed b c given next keeps handed faults d so
+
+  pub outcome_stops : Halts c given next → (handed : Option (List Entries)) (faults : ℕ) → Stops IsAny b [] None (told given handed faults) (told next handed faults)
+  outcome_stops so = λ handed faults. stops_flushed b c given next keeps handed faults so
 
 -- nothing happened
-pub steps_none : (c d : Core) (now : Told) → ((order : List Event) → StandsFor c order → StandsFor d order) → GoesThrough c d [] now now
-steps_none c d now keeps = record { events = []; stands = keeps; takes = refl; unended = refl; tells = tells_nothing now }
+pub steps_none : (Such : Said → Type 0) (c d : Core) (now : Told) → ((order : List Event) → StandsFor c order → StandsFor d order) → GoesThrough Such c d [] None now now
+steps_none Such c d now keeps = record { events = []; stands = keeps; takes = refl; ended = refl; such = All-nil Such; tells = tells_nothing now }
 
-pub stops_here : (c : Core) (now : Told) → Stops c [] now now
-stops_here c now =
-    record { events = []; lawful = λ order stands. stood_lawful c order stands; takes = refl; unended = refl; tail = []; tells = tells_nothing now; cut = λ some. absurd (some refl) }
+-- the core found no memory
+pub stops_lost : (Such : Said → Type 0) (c d : Core) (now : Told) → ((order : List Event) → StandsFor c order → StandsFor d order) → Stops Such c [] None now now
+stops_lost Such c d now keeps =
+    record { events = []; lawful = λ order stands. stood_lawful d order (keeps order stands); takes = refl; ended = refl; such = All-nil Such; tail = []; tells = tells_nothing now; cut = λ some. absurd (some refl) }
 
 -- what the core keeps of an order it kept before
-module _ (b c : Core) (bodies : List (List ℕ)) (old new : Told) (keeps : (order : List Event) → StandsFor b order → StandsFor c order) where
-  pub steps_kept : (d : Core) → GoesThrough c d bodies old new → GoesThrough b d bodies old new
+module _ (Such : Said → Type 0) (b c : Core) (bodies : List (List ℕ)) (end : Option InputEnd) (old new : Told) (keeps : (order : List Event) → StandsFor b order → StandsFor c order) where
+  pub steps_kept : (d : Core) → GoesThrough Such c d bodies end old new → GoesThrough Such b d bodies end old new
   steps_kept d steps =
-      record { events = steps.events; stands = λ order stands. steps.stands order (keeps order stands); takes = steps.takes; unended = steps.unended; tells = steps.tells }
+      record { events = steps.events; stands = λ order stands. steps.stands order (keeps order stands); takes = steps.takes; ended = steps.ended; such = steps.such; tells = steps.tells }
 
-  pub stops_kept : Stops c bodies old new → Stops b bodies old new
+  pub stops_kept : Stops Such c bodies end old new → Stops Such b bodies end old new
   stops_kept stops =
-      record { events = stops.events; lawful = λ order stands. stops.lawful order (keeps order stands); takes = stops.takes; unended = stops.unended; tail = stops.tail; tells = stops.tells; cut = stops.cut }
+      record { events = stops.events; lawful = λ order stands. stops.lawful order (keeps order stands); takes = stops.takes; ended = stops.ended; such = stops.such; tail = stops.tail; tells = stops.tells; cut = stops.cut }
 
--- steps, and others that take no body
-module _ (b c : Core) (bodies : List (List ℕ)) (x y z : Told) (so : GoesThrough b c bodies x y) where
+-- what is bare is any message
+steps_any : (Such : Said → Type 0) (c d : Core) (bodies : List (List ℕ)) (end : Option InputEnd) (old new : Told) → GoesThrough Such c d bodies end old new → GoesThrough IsAny c d bodies end old new
+steps_any Such c d bodies end old new steps =
+    record { events = steps.events; stands = steps.stands; takes = steps.takes; ended = steps.ended; such = any_all (writes_of steps.events); tells = steps.tells }
+
+stops_any : (Such : Said → Type 0) (c : Core) (bodies : List (List ℕ)) (end : Option InputEnd) (old new : Told) → Stops Such c bodies end old new → Stops IsAny c bodies end old new
+stops_any Such c bodies end old new stops =
+    record { events = stops.events; lawful = stops.lawful; takes = stops.takes; ended = stops.ended; such = any_all (writes_of stops.events); tail = stops.tail; tells = stops.tells; cut = stops.cut }
+
+-- steps, and others that take no body and find no end
+module _ (Such : Said → Type 0) (b c : Core) (bodies : List (List ℕ)) (end : Option InputEnd) (x y z : Told) (so : GoesThrough Such b c bodies end x y) where
   joined_takes : (later : List Event) → takes_of later ≡ [] → takes_of (later ++ so.events) ≡ bodies
   joined_takes later none = takes_of-append later so.events ∙ (ap (λ more. takes_of so.events ++ more) none ∙ (append-nil (takes_of so.events) ∙ so.takes))
 
-  pub steps_then : (d : Core) → GoesThrough c d [] y z → GoesThrough b d bodies x z
+  joined_such : (later : List Event) → All Such (writes_of later) → All Such (writes_of (later ++ so.events))
+  joined_such later such = subst (All Such) (sym (writes_of-append later so.events)) (All-append Such (writes_of so.events) (writes_of later) so.such such)
+
+  pub steps_then : (d : Core) → GoesThrough Such c d [] None y z → GoesThrough Such b d bodies end x z
   steps_then d next =
       record {
         events = next.events ++ so.events;
         stands = λ order stands. subst (λ behind. StandsFor d behind) (sym (append_assoc next.events so.events order)) (next.stands (so.events ++ order) (so.stands order stands));
         takes = joined_takes next.events next.takes;
-        unended = end_of-append next.events so.events next.unended ∙ so.unended;
+        ended = end_of-append next.events so.events next.ended ∙ so.ended;
+        such = joined_such next.events next.such;
         tells = tells_append so.events next.events [] x y z so.tells next.tells;
       }
 
-  pub stops_then : Stops c [] y z → Stops b bodies x z
+  pub stops_then : Stops Such c [] None y z → Stops Such b bodies end x z
   stops_then next =
       record {
         events = next.events ++ so.events;
         lawful = λ order stands. subst (λ behind. Lawful behind) (sym (append_assoc next.events so.events order)) (next.lawful (so.events ++ order) (so.stands order stands));
         takes = joined_takes next.events next.takes;
-        unended = end_of-append next.events so.events next.unended ∙ so.unended;
+        ended = end_of-append next.events so.events next.ended ∙ so.ended;
+        such = joined_such next.events next.such;
         tail = next.tail;
         tells = tells_append so.events next.events next.tail x y z so.tells next.tells;
         cut = next.cut;
       }
+
+  -- the session stops behind them
+  pub stops_behind : (d : Core) → ((order : List Event) → StandsFor c order → StandsFor d order) → Stops Such b bodies end x y
+  stops_behind d keeps =
+      record {
+        events = so.events;
+        lawful = λ order stands. stood_lawful d (so.events ++ order) (keeps (so.events ++ order) (so.stands order stands));
+        takes = so.takes;
+        ended = so.ended;
+        such = so.such;
+        tail = [];
+        tells = so.tells;
+        cut = λ some. absurd (some refl);
+      }
+
+-- any messages, and then such that take no body and find no end
+module _ (Such : Said → Type 0) (b c d : Core) (x y z : Told) (so : GoesThrough IsAny b c [] None x y) where
+  pub any_behind : GoesThrough Such c d [] None y z → GoesThrough IsAny b d [] None x z
+  any_behind next = steps_then IsAny b c [] None x y z so d (steps_any Such c d [] None y z next)
+
+pub any_stops_behind : (Such : Said → Type 0) (b c : Core) (x y z : Told) → GoesThrough IsAny b c [] None x y → Stops Such c [] None y z → Stops IsAny b [] None x z
+any_stops_behind Such b c x y z so next = stops_then IsAny b c [] None x y z so (stops_any Such c [] None y z next)

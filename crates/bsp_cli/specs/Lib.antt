@@ -1,7 +1,9 @@
 pub mod Outcomes
+pub mod Patience
 pub mod Places
 pub mod Words
 pub mod Session
+pub mod Shares
 pub mod Outside
 pub mod Writing
 pub mod Notes

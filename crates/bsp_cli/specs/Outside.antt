@@ -1,6 +1,7 @@
--- What the tree and the output tell, and how that changes by the events of a session.
+-- What the tree, the output, the input and the crew tell, and how that changes by the events of a session.
 use Rattle.std.specs.Prelude.{◌++◌, ℕ, List, flat_map, Option}
 use Rattle.ob_text.specs.Held.{Entries}
+use Rattle.bsp_edge.specs.Course.{Course}
 use Rattle.bsp_edge.specs.Handing.{Hands}
 use Rattle.bsp_edge.specs.Streams.{Gives}
 use Rattle.session_law.specs.IsFramed.{text_of}
@@ -15,6 +16,15 @@ pub record Told : Type 0 where
 
 abbrev pub told : Option (List ℕ) → Option (List Entries) → ℕ → Told
 told given handed faults = record { given = given; handed = handed; faults = faults }
+
+-- what is left of the input, how far it is, and how many outcomes were collected
+pub record Heard : Type 0 where
+  pub left : Option (List ℕ)
+  pub course : Option Course
+  pub collected : ℕ
+
+abbrev pub heard : Option (List ℕ) → Option Course → ℕ → Heard
+heard left course collected = record { left = left; course = course; collected = collected }
 
 -- between two moments lie the hands and the writes of these events, and these bytes more
 pub record Tells (events : List Event) (tail : List ℕ) (old new : Told) : Type 0 where

@@ -1,6 +1,6 @@
 -- What `serve` does to its input, its tree and its output, whatever they are: the bytes taken, what the
 -- tree handed out and the bytes written are the takes, the hands and the writes of one lawful order, and
--- the status agrees with it.
+-- the status agrees with it. (`Patience.antt` says of the same order when more input is waited for.)
 use Rattle.std.specs.Prelude.{◌≡◌, ◌≢◌, ◌⊎◌, ◌+◌, ◌-◌, ◌^◌, ◌++◌, ◌≤◌, ◌<◌, ℕ, suc, List, [], length, take, flat_map, Option, Some, None}
 use Rattle.bsp_edge.specs.Course.{Course}
 use Rattle.bsp_edge.specs.Faults.{Rose}
@@ -20,6 +20,7 @@ use Rattle.session_law.specs.IsFramed.{IsFramed, text_of}
 use Rattle.session_law.specs.Lawful.{Lawful}
 use Rattle.session_law.specs.Order.{Event, takes_of, writes_of, hands_of, failures_of, end_of}
 use Rattle.session_law.specs.Past.{status_after}
+use Rattle.bsp_cli.specs.Patience.{WaitedLast}
 use Rattle.bsp_cli.specs.Places.{EndsInLast, WhereTold}
 
 -- what a source told before a call and behind it: what is left, its course, and the faults
@@ -54,6 +55,14 @@ pub record TreeChange : Type 0 where
 
 abbrev pub tree_changed : Option (List Entries) → Option (List Entries) → ℕ → ℕ → TreeChange
 tree_changed old new faults_old faults_new = record { old = old; new = new; faults_old = faults_old; faults_new = faults_new }
+
+-- how many outcomes of a crew were collected before a call and behind it
+pub record CrewChange : Type 0 where
+  pub old : ℕ
+  pub new : ℕ
+
+abbrev pub crew_changed : ℕ → ℕ → CrewChange
+crew_changed old new = record { old = old; new = new }
 
 -- A count of faults went up by no less than these failures, unless it stands at its last value, and it
 -- is the same where there were none.
@@ -105,21 +114,25 @@ abbrev pub Counts : Option InputEnd → ℕ → List ℕ → List ℕ → Type 0
 Counts None taken read rest = rest ≡ []
 Counts (Some how) taken read rest = taken ≡ length read
 
-pub record Session (input : InputChange) (tree : TreeChange) (output : Change) (status taken : ℕ) (damage : Option Damage) : Type 0 where
-  -- the one order
-  pub order : List Event
+-- the output failed where the last of the bytes taken lies in the last piece that was read, or where the session waited
+abbrev pub FailedInLast : List Event → List ℕ → ℕ → Course → Course → Type 0
+FailedInLast order read taken start now = EndsInLast taken start now ⊎ WaitedLast order read start now
+
+-- what became of the order and of the bytes that were read
+pub record Session (order : List Event) (read : List ℕ) (input : InputChange) (tree : TreeChange) (output : Change) (status taken : ℕ) (damage : Option Damage) : Type 0 where
   pub lawful : Lawful order
   -- its takes are the frames of the bytes taken
-  pub read : List ℕ
   pub consumed : Takes input.old input.new read
   pub within : taken ≤ length read
   pub rest : List ℕ
   pub frames : Frames (take taken read) (takes_of order) rest
   pub counts : Counts (end_of order) taken read rest
   pub ends_for : EndsFor (end_of order) damage input read rest
-  -- where the input wasn't found to have ended, the session took an exit, or the output failed behind a frame, which lies
-  -- in the last piece that was read
-  pub in_last : status ≤ 4 → end_of order ≡ None → WhereTold (EndsInLast taken) input.course_old input.course_new
+  -- where the input wasn't found to have ended, the session took an exit, which lies in the last piece that was read
+  pub in_last : status < 4 → end_of order ≡ None → WhereTold (EndsInLast taken) input.course_old input.course_new
+  -- or the output failed, at a frame of the last piece, or as an outcome was acted on: then no piece was read behind the last
+  -- poll that found the input quiet
+  pub failed_in_last : status ≡ 4 → end_of order ≡ None → WhereTold (FailedInLast order read taken) input.course_old input.course_new
   -- its hands are what the tree handed out, and its failures are among the tree's faults
   pub hands : Hands tree.old tree.new (hands_of order)
   pub failures : RoseBy (failures_of order) tree.faults_old tree.faults_new
@@ -132,3 +145,10 @@ pub record Session (input : InputChange) (tree : TreeChange) (output : Change) (
   pub settled : status < 4 → IsSettled order
   pub agrees : status < 4 → status_after order ≡ Some status
   pub no_other : status ≤ 5
+
+-- a read found that the input has no more, before its limit, and nothing is wrong with what was read but that it may end
+-- inside a frame
+pub record FoundNoMore (order : List Event) (read : List ℕ) : Type 0 where
+  pub ended : (end_of order ≡ Some Border) ⊎ (end_of order ≡ Some Damaged)
+  pub sound : IsSound read
+  pub within : length read < stream_limit

@@ -1,11 +1,17 @@
-//! The program as a library: the words of its command line, its loop over an input, a tree of files and an
-//! output, its notes and its exit status, over any input and output and over the real ones.
+//! The program as a library: the words of its command line, its loop over an input, a tree of files, a crew
+//! that does jobs and an output, its notes and its exit status, over any input and output and over the real ones.
 //!
-//! It stands on the session (`session_core`, by the law of `session_law`), on frames and messages, and on
-//! `bsp_edge` for what is outside. It knows all of these and nothing of the language. Begin with `run_words`
-//! (`run.rt`), whose contract is the headline, and with `specs/Session.antt`.
+//! The loop acts on all frames that were read, and then waits: for more input alone where the session is idle, and
+//! else for more input or for an outcome of the crew, whichever comes first. After each step it meets what the session
+//! needs: it asks the tree, gives the crew a job, or drains it.
+//!
+//! It stands on the session (`session_core`, by the law of `session_law`), on frames and messages, on the crews of
+//! `worker_pool`, and on `bsp_edge` for what is outside. It knows all of these and nothing of the language. Begin with
+//! `run_words` (`run.rt`), whose contract is the headline, and with `specs/Session.antt` and `specs/Patience.antt`.
+//! The loop itself is in `serve.rt` (turns), `waiting.rt` (for pieces and outcomes) and `needs.rt`.
 #![tactic(auto)]
 
+mod needs;
 mod notes;
 mod outcome;
 mod program;
@@ -14,6 +20,7 @@ mod run;
 mod serve;
 mod status;
 mod stop;
+mod waiting;
 mod words;
 mod writing;
 

@@ -12,6 +12,7 @@ use std::env;
 use std::io::ErrorKind;
 use std::process::ExitCode;
 use std::rt::Env;
+use worker_pool::InlineCrew;
 
 /// Runs the program over the words of its command line, standard input, the folder that they name, standard
 /// output and standard error.
@@ -38,7 +39,16 @@ fn run_real(rt: HostRuntime) -> Result<Ended, NoMemory> {
     let mut tree = FolderTree::new(rt, alloc, folder);
     let mut output = RealSink::output(rt);
     let mut notes = RealSink::notes(rt);
-    Ok(run_words(alloc, asked, &mut input, &mut tree, &mut output, &mut notes))
+    let mut crew = InlineCrew::new(alloc);
+    Ok(run_words(
+        alloc,
+        asked,
+        &mut input,
+        &mut tree,
+        &mut output,
+        &mut notes,
+        &mut crew,
+    ))
 }
 
 /// The folder that is asked for, or the current one.

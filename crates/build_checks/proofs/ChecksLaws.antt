@@ -32,6 +32,11 @@ module _ (fn now : Checks) (pl : Places) (same : now ≡ record fn { plan = now.
       carried (AreNumbersOf keys) fn now pl same
       (subst (λ (settled : List ℕ). AreNumbers keys (world_of fn) fn.wanted.keys settled fn.views.items fn.numbers.items fn.out fn.missing) (sym (e ∙ finished)) are)
 
+  pub numbers_before_now : of_build fn.wanted.keys pl.finished ≡ of_build fn.wanted.keys now.plan.finished → (keys : List (List ℕ)) → AreNumbersOf keys (record now { plan = pl }) → AreNumbersOf keys fn
+  numbers_before_now e keys =
+      carried (λ x. AreNumbersOf keys x → AreNumbersOf keys fn) fn now pl same
+      (λ are. subst (λ (settled : List ℕ). AreNumbers keys (world_of fn) fn.wanted.keys settled fn.views.items fn.numbers.items fn.out fn.missing) (e ∙ finished) are)
+
   pub world_now : world_of (record now { plan = pl }) ≡ world_of fn
   world_now = carried (λ x. world_of x ≡ world_of fn) fn now pl same refl
 

@@ -4,7 +4,7 @@ use Rattle.std.specs.Prelude.{codes, Contains, if◌then◌else◌, slice_get}
 use Rattle.std.specs.List.{slice_set}
 use Rattle.std.proofs.lemmas.Bool.{cases_eq}
 use Rattle.std.proofs.lemmas.List.{get_or-set_other, get_or-set_same, length-set}
-use Rattle.std.proofs.lemmas.List.Elements.{Contains-push_cases}
+use Rattle.std.proofs.lemmas.List.Elements.{Contains-append_left, Contains-push_cases}
 use Rattle.build_plan.specs.Places.{Places, with_finished}
 use Rattle.iface_key.specs.Keys.{key_of_view}
 use Rattle.oberon_rules.specs.Views.{out_view}
@@ -75,6 +75,43 @@ module _ (keys : List (List ℕ)) (w : World) (modules settled : List ℕ) (kept
         subst (HasView w m) (sym (views_here kept m own within)) has,
         ap (slice_get keys) (get_or-set_same numbers m number 0 also) ∙ at ∙ ap (λ v. Some (key_of_view v)) (sym (views_here kept m own within)),
       ))
+
+-- ---- the numbers before a module was settled
+
+numbers_before : (keys : List (List ℕ)) (w : World) (modules settled : List ℕ) (kept later : List View) (numbers others : List ℕ) (out missing m : ℕ)
+    → ((p : ℕ) → Contains settled p ⊎ IsCyclic w p → view_at later p ≡ view_at kept p) → ((p : ℕ) → Contains settled p ⊎ IsCyclic w p → number_at others p ≡ number_at numbers p)
+    → AreNumbers keys w modules (settled ++ m ∷ []) later others out missing → AreNumbers keys w modules settled kept numbers out missing
+numbers_before keys w modules settled kept later numbers others out missing m views_stay numbers_stay are = record {
+  for_out = are.for_out;
+  for_missing = are.for_missing;
+  each = λ p among at.
+      (let h = are.each p among (more p at) in (
+        subst (HasView w p) (views_stay p at) h.0,
+        ap (slice_get keys) (sym (numbers_stay p at)) ∙ (h.1 ∙ ap (λ v. Some (key_of_view v)) (views_stay p at)),
+      ));
+}
+  where
+    more : (p : ℕ) → Contains settled p ⊎ IsCyclic w p → Contains (settled ++ m ∷ []) p ⊎ IsCyclic w p
+    more p (inl there) = inl (Contains-append_left settled (m ∷ []) p there)
+    more p (inr cycle) = inr cycle
+
+-- one on a cycle kept what it had
+pub before_cyclic : (keys : List (List ℕ)) (w : World) (modules settled : List ℕ) (kept : List View) (numbers : List ℕ) (out missing m : ℕ)
+    → AreNumbers keys w modules (settled ++ m ∷ []) kept numbers out missing → AreNumbers keys w modules settled kept numbers out missing
+before_cyclic keys w modules settled kept numbers out missing m are =
+    numbers_before keys w modules settled kept kept numbers numbers out missing m (λ p at. refl) (λ p at. refl) are
+
+-- another one got its view and the number of that
+pub before_view : (keys : List (List ℕ)) (w : World) (modules settled : List ℕ) (kept : List View) (numbers : List ℕ) (out missing m : ℕ) (own : View) (number : ℕ)
+    → ¬ (Contains settled m) → ¬ (IsCyclic w m) → AreNumbers keys w modules (settled ++ m ∷ []) (slice_set kept m own) (slice_set numbers m number) out missing
+    → AreNumbers keys w modules settled kept numbers out missing
+before_view keys w modules settled kept numbers out missing m own number unsettled acyclic are =
+    numbers_before keys w modules settled kept (slice_set kept m own) numbers (slice_set numbers m number) out missing m
+    (λ p at. views_other false kept m own p (other p at)) (λ p at. get_or-set_other numbers m p number 0 (other p at)) are
+  where
+    other : (p : ℕ) → Contains settled p ⊎ IsCyclic w p → p ≢ m
+    other p (inl there) same = unsettled (subst (Contains settled) same there)
+    other p (inr cycle) same = acyclic (subst (IsCyclic w) same cycle)
 
 -- ---- the views, as a module is settled
 

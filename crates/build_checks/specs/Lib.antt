@@ -3,3 +3,4 @@ pub mod Kept
 pub mod Looked
 pub mod Numbers
 pub mod Stand
+pub mod Work

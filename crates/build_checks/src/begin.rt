@@ -3,7 +3,6 @@ ghost use Rattle.std.specs.List.{All};
 ghost use Rattle.build_plan.specs.Places.{fresh};
 ghost use Rattle.iface_key.specs.Keys.{key_of_view};
 ghost use Rattle.ob_text.specs.Held.{IsReadable};
-ghost use Rattle.ob_text.specs.declared.held.Held.TheVariants as helds;
 ghost use Rattle.oberon_types.specs.Memory.{plain_view};
 ghost use Rattle.build_sources.specs.Modules.{AreModules};
 ghost use Rattle.build_sources.specs.Rows.{AreRows};
@@ -19,9 +18,10 @@ use build_plan::Plan;
 use build_sources::{Sources, first_views, out_view, set_of};
 use check_cache::Cache;
 use iface_key::{Keys, key_of};
-use ob_text::{Held, NoMemory, Snapshot};
+use ob_text::{NoMemory, Snapshot};
 use oberon_types::View;
 use std::alloc::Global;
+use std::sync::Arc;
 use target_graph::Workspace;
 
 /// The numbers of the keys of what Out, a name that means no module, and a module on a cycle show.
@@ -32,23 +32,21 @@ pub(crate) struct First {
     pub cyclic: u64,
 }
 
-impl<'a> Checks<'a> {
+impl Checks {
     /// The checks of the build of some modules, which are indices of pairs, by what was handed out: none is taken yet. A
-    /// document of which a check of the same text is kept isn't read. `absent` stands for each that wasn't handed out.
+    /// document of which a check of the same text is kept isn't read.
     pub fn begin(
         alloc: Global,
-        workspace: &'a Workspace,
+        workspace: Arc<Workspace>,
         modules: &[u32],
-        snapshot: &'a Snapshot,
-        absent: &'a Held,
+        snapshot: Snapshot,
         cache: &Cache,
         keys: &mut Keys,
-    ) -> Result<Checks<'a>, NoMemory>
-        requires modules { AreModules workspace.now.targets modules.now }
-        requires texts { All (λ entry. IsReadable entry.1) snapshot.now.entries }
-        requires absent { absent.now ≡ helds.Absent }
+    ) -> Result<Checks, NoMemory>
+        requires modules { AreModules workspace.value.targets modules.now }
+        requires texts { All (λ entry. IsReadable entry.1) snapshot.entries }
         ensures checks { IfOk result AreChecks }
-        ensures world { IfOk result (λ checks. world_of checks ≡ record { targets = workspace.now.targets; entries = snapshot.now.entries }) }
+        ensures world { IfOk result (λ checks. world_of checks ≡ record { targets = workspace.value.targets; entries = snapshot.entries }) }
         ensures modules { IfOk result (λ checks. (p : ℕ) → Contains (modules_of checks) p ↔ Contains modules.now p) }
         ensures taken { IfOk result (λ checks. taken_of checks ≡ []) }
         ensures settled { IfOk result (λ checks. settled_of checks ≡ []) }
@@ -56,33 +54,28 @@ impl<'a> Checks<'a> {
         ensures earlier { Extends keys.old keys.new }
     {
         let first = first_numbers(alloc, keys)?;
-        let known = known_imports(alloc, workspace, snapshot.entries.as_slice(), cache)?;
-        let sources = Sources::new(alloc, workspace, snapshot, absent, known.as_slice())?;
+        let known = known_imports(alloc, &workspace, snapshot.entries.as_slice(), cache)?;
+        let sources = Sources::new(alloc, workspace, snapshot, known.as_slice())?;
         begun(alloc, sources, modules, first)
     }
 }
 
 /// The checks by these sources, of which none is taken yet.
-fn begun<'a>(
-    alloc: Global,
-    sources: Sources<'a>,
-    modules: &[u32],
-    first: First,
-) -> Result<Checks<'a>, NoMemory>
+fn begun(alloc: Global, sources: Sources, modules: &[u32], first: First) -> Result<Checks, NoMemory>
     requires sources { AreSources sources }
     requires modules { AreModules (world sources).targets modules.now }
     ensures checks { IfOk result AreChecks }
-    ensures world { IfOk result (λ checks. world_of checks ≡ world sources.entry) }
+    ensures world { IfOk result (λ checks. world_of checks ≡ world sources) }
     ensures modules { IfOk result (λ checks. (p : ℕ) → Contains (modules_of checks) p ↔ Contains modules.now p) }
     ensures taken { IfOk result (λ checks. taken_of checks ≡ []) }
     ensures settled { IfOk result (λ checks. settled_of checks ≡ []) }
     ensures numbers { IfOk result (λ checks. (keys : List (List ℕ)) → AreFirst keys first → AreNumbersOf keys checks) }
 {
-    let count = sources.workspace.pairs().len();
+    let size = sources.count();
     let plan = first_plan(alloc, &sources)?;
     let wanted = set_of(alloc, modules)?;
-    let views = first_views(alloc, &plan, count)?;
-    let numbers = vec![in alloc; first.cyclic; count]?;
+    let views = first_views(alloc, &plan, size)?;
+    let numbers = vec![in alloc; first.cyclic; size]?;
     Ok(Checks {
         alloc,
         sources,
@@ -100,7 +93,7 @@ fn first_plan(alloc: Global, sources: &Sources) -> Result<Plan, NoMemory>
     requires { AreSources sources.now }
     ensures { IfOk result (λ plan. (rows : List (List ℕ)) × AreRows (world sources.now) rows × (plan ≡ fresh rows)) }
 {
-    let _count = sources.workspace.pairs().len();
+    let _size = sources.count();
     Plan::new(alloc, sources.rows(alloc)?)
 }
 

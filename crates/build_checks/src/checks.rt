@@ -17,9 +17,9 @@ use std::alloc::Global;
 
 /// The checks of one build, as far as they are.
 #[derive(Drop)]
-pub struct Checks<'a> {
+pub struct Checks {
     pub(crate) alloc: Global,
-    pub(crate) sources: Sources<'a>,
+    pub(crate) sources: Sources,
     /// The modules of the build.
     pub(crate) wanted: IndexSet<u32>,
     pub(crate) plan: Plan,
@@ -33,7 +33,7 @@ pub struct Checks<'a> {
     pub(crate) missing: u64,
 }
 
-impl<'a> Checks<'a> {
+impl Checks {
     /// Takes the least module of the build whose imports are settled or on a cycle. Takes no memory.
     pub fn next(&mut self) -> Option<u32>
         requires { AreChecks self.old }
@@ -42,6 +42,7 @@ impl<'a> Checks<'a> {
         ensures modules { modules_of self.new ≡ modules_of self.old }
         ensures settled { settled_of self.new ≡ settled_of self.old }
         ensures numbers { (keys : List (List ℕ)) → AreNumbersOf keys self.old → AreNumbersOf keys self.new }
+        ensures stays { (keys : List (List ℕ)) → AreNumbersOf keys self.new → AreNumbersOf keys self.old }
         ensures next { IfSome result (IsNext self.old) }
         ensures taken { IfSome result (λ p. taken_of self.new ≡ taken_of self.old ++ p ∷ []) }
         ensures left { left_of self.new ≤ left_of self.old }
@@ -75,6 +76,8 @@ impl<'a> Checks<'a> {
         ensures settled { OnOk result (settled_of self.new ≡ settled_of self.old ++ index ∷ []) }
         ensures numbers { OnOk result ((¬ (IsCyclic (world_of self.old) index) → HasView (world_of self.old) index (plain_view view.now))
             → AreNumbersOf keys.old self.old → AreNumbersOf keys.new self.new) }
+        // What was settled before keeps its view and its number.
+        ensures stays { OnOk result ((keys : List (List ℕ)) → AreNumbersOf keys self.new → AreNumbersOf keys self.old) }
         ensures earlier { Extends keys.old keys.new }
         ensures unchanged { OnErr result (self.new ≡ self.old) }
     {

@@ -9,7 +9,7 @@ ghost use Rattle.build_checks.specs.Stand.{AreChecks, IsClear, modules_of, settl
 use crate::checks::Checks;
 use ob_text::{Name, NoMemory};
 
-impl<'a> Checks<'a> {
+impl Checks {
     /// The names that a module imports, in the order of its text, each with the number of the key of what it shows.
     pub fn imports(&self, index: u32) -> Result<Vec<(Name, u64)>, NoMemory>
         requires checks { AreChecks self.now }
@@ -34,7 +34,7 @@ impl<'a> Checks<'a> {
         requires within { target < length (world_of self.now).targets }
         ensures { IsNumberOf (world_of self.now).targets target self.now.numbers.items self.now.out self.now.missing name.now result }
     {
-        match self.sources.workspace.visible(target, name) {
+        match self.sources.visible(target, name) {
             Some(module) => self.numbers[module as usize],
             None if name.as_slice() == b"Out".as_slice() => self.out,
             None => self.missing,

@@ -6,7 +6,7 @@ use crate::checks::Checks;
 use check_cache::{Cache, Hit, PairKey};
 use ob_text::{Name, NoMemory};
 
-impl<'a> Checks<'a> {
+impl Checks {
     /// The kept check of a module for what is held at its path and for these imports.
     pub fn look<'c>(
         &self,

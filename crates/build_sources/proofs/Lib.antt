@@ -1,4 +1,5 @@
 pub mod DocumentLaws
+pub mod AlikeLaws
 pub mod ImportLaws
 pub mod CheckLaws
 pub mod ReadLaws

@@ -1,7 +1,9 @@
 -- Documents as they were read, by their paths.
-use Rattle.std.specs.Prelude.{◌≡◌, ℕ, List, Option, Some, None, IfSome, Contains, slice_get}
+use Rattle.std.specs.Prelude.{◌≡◌, ℕ, List, map, Option, Some, None, IfSome, Contains, slice_get}
 use Rattle.std.specs.Borrow.{Bor}
 use Rattle.std.specs.Str.{bytes_eq}
+use Rattle.std.specs.declared.alloc.Global.{Global}
+use Rattle.std.specs.declared.sync.Arc.{Arc}
 use Rattle.indexmap.specs.IndexMap.{IndexMap, get}
 use Rattle.ob_text.specs.Held.{Entries, IsReadable, held_at}
 use Rattle.ob_text.specs.declared.held.Held.{Held}
@@ -27,9 +29,9 @@ AreKnown entries known = (i : ℕ) (entry : List ℕ × Held) (names : Option (B
 
 -- this is known of what is held, and was read of it if anything was
 pub record IsDocument (held : Held) (d : Document) : Type 0 where
-  pub held_is : d.held.now ≡ held
+  pub held_is : d.held.value ≡ held
   pub readable : IsReadable held
-  pub read : IfSome d.reading (IsRead held)
+  pub read : IfSome d.reading (λ reading. IsRead held reading.value)
   pub imported : AreImportsOf held d.imports.items
 
 abbrev pub IsDocumentOf : Option Held → Option Document → Type 0
@@ -42,6 +44,14 @@ IsDocumentOf (Some held) None = ⊥
 abbrev pub AreRead : {S : Type 0} → Entries → IndexMap (List ℕ) Document S → Type 0
 AreRead entries known = (path : List ℕ) → IsDocumentOf (held_at entries path) (get bytes_eq known path)
 
+-- what stands at each path, by what is shared
+abbrev pub shown_in : List (List ℕ × Arc Held Global) → Entries
+shown_in shared = map (λ (entry : List ℕ × Arc Held Global). (entry.0, entry.1.value)) shared
+
+-- what was handed out
+abbrev pub handed_out : Documents → Entries
+handed_out documents = shown_in documents.entries.items
+
 pub record AreDocuments (documents : Documents) : Type 0 where
-  pub known : AreRead documents.entries.now documents.by_path
+  pub known : AreRead (handed_out documents) documents.by_path
   pub absent : IsDocument Absent documents.absent.value

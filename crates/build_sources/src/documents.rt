@@ -3,56 +3,60 @@ ghost use Rattle.std.specs.List.{All, slice_get};
 ghost use Rattle.std.specs.Str.{bytes_eq};
 ghost use Rattle.indexmap.specs.IndexMap.{get};
 ghost use Rattle.ob_text.specs.Held.{IsReadable};
-ghost use Rattle.ob_text.specs.declared.held.Held.TheVariants as helds;
 ghost use Rattle.oberon_module.specs.Reading.{IsRead, imports_read};
 ghost use Rattle.oberon_module.specs.Views.{plain_views};
 ghost use Rattle.oberon_rules.specs.Local.{Local, view_in};
 ghost use Rattle.oberon_types.specs.Memory.{plain_view};
 ghost use Rattle.build_rules.specs.World.{handed_at};
-ghost use Rattle.build_sources.specs.Documents.{AreDocuments, AreKnown, IsDocument, IsKnown};
+ghost use Rattle.build_sources.specs.Documents.{AreDocuments, AreKnown, AreRead, IsDocument, IsKnown, handed_out, shown_in};
 
 use indexmap::IndexMap;
-use ob_text::{Held, Name, NoMemory, Path};
+use ob_text::{Held, Name, NoMemory, Path, Snapshot};
 use oberon_imports::imports_of;
 use oberon_module::{Checked, Reading, check_module, check_read, read_tokens, read_tree};
 use oberon_types::View;
 use std::alloc::Global;
+use std::sync::Arc;
 
-/// A document, read at most once for all the modules that it is.
+/// A document, read at most once for all the modules that it is. What is held and what was read are shared with those who
+/// check it.
 #[derive(Drop)]
-pub struct Document<'a> {
-    pub held: &'a Held,
+pub struct Document {
+    pub held: Arc<Held>,
     /// What was read of it; none where its imports were known.
-    pub reading: Option<Reading>,
+    pub reading: Option<Arc<Reading>>,
     /// The names that it imports, each once, in the order of the text.
     pub imports: Vec<Name>,
 }
 
-impl<'a> Document<'a> {
+impl Document {
     /// What is held at a path, which is read unless its imports are known.
-    fn new(alloc: Global, held: &'a Held, known: Option<&[Name]>) -> Result<Document<'a>, NoMemory>
-        requires text { IsReadable held.now }
-        requires known { IsKnown held.now known }
-        ensures { IfOk result (IsDocument held.now) }
+    fn new(alloc: Global, held: Arc<Held>, known: Option<&[Name]>) -> Result<Document, NoMemory>
+        requires text { IsReadable held.value }
+        requires known { IsKnown held.value known }
+        ensures { IfOk result (IsDocument held.value) }
     {
         match known {
-            Some(names) => Ok(Document {
-                held,
-                reading: None,
-                imports: copies_of(alloc, names)?,
-            }),
+            Some(names) => {
+                let imports = copies_of(alloc, names)?;
+                Ok(Document {
+                    held,
+                    reading: None,
+                    imports,
+                })
+            }
             None => Document::read(alloc, held),
         }
     }
 
     /// Reads what is held at a path.
-    fn read(alloc: Global, held: &'a Held) -> Result<Document<'a>, NoMemory>
-        requires { IsReadable held.now }
-        ensures { IfOk result (IsDocument held.now) }
+    fn read(alloc: Global, held: Arc<Held>) -> Result<Document, NoMemory>
+        requires { IsReadable held.value }
+        ensures { IfOk result (IsDocument held.value) }
     {
-        let tokens = read_tokens(alloc, held)?;
-        let reading = read_tree(alloc, held, tokens)?;
+        let reading = reading_of(alloc, &held)?;
         let imports = imports_in(alloc, &reading)?;
+        let reading = Arc::new(alloc, reading)?;
         Ok(Document {
             held,
             reading: Some(reading),
@@ -67,15 +71,24 @@ impl<'a> Document<'a> {
         stem: &Name,
         views: &IndexMap<Name, View>,
     ) -> Result<Checked, NoMemory>
-        requires text { IsReadable self.now.held.now }
-        requires read { IfSome self.now.reading (IsRead self.now.held.now) }
-        ensures { IfOk result (λ checked. Local self.now.held.now stem.now (view_in (plain_views views.now.entries)) checked.list.items checked.imports.items (plain_view checked.view)) }
+        requires text { IsReadable self.now.held.value }
+        requires read { IfSome self.now.reading (λ reading. IsRead self.now.held.value reading.value) }
+        ensures { IfOk result (λ checked. Local self.now.held.value stem.now (view_in (plain_views views.now.entries)) checked.list.items checked.imports.items (plain_view checked.view)) }
     {
         match &self.reading {
-            Some(reading) => check_read(alloc, stem, self.held, reading, views),
-            None => check_module(alloc, stem, self.held, views),
+            Some(reading) => check_read(alloc, stem, &self.held, reading, views),
+            None => check_module(alloc, stem, &self.held, views),
         }
     }
+}
+
+/// Reads what is held at a path.
+fn reading_of(alloc: Global, held: &Held) -> Result<Reading, NoMemory>
+    requires { IsReadable held.now }
+    ensures { IfOk result (IsRead held.now) }
+{
+    let tokens = read_tokens(alloc, held)?;
+    read_tree(alloc, held, tokens)
 }
 
 fn copies_of(alloc: Global, names: &[Name]) -> Result<Vec<Name>, NoMemory>
@@ -100,37 +113,31 @@ fn imports_in(alloc: Global, reading: &Reading) -> Result<Vec<Name>, NoMemory>
 
 /// The documents that were handed out, by their paths.
 #[derive(Drop)]
-pub struct Documents<'a> {
-    pub entries: &'a [(Path, Held)],
-    by_path: IndexMap<Path, Document<'a>>,
+pub struct Documents {
+    /// What was handed out, in order.
+    entries: Vec<(Path, Arc<Held>)>,
+    by_path: IndexMap<Path, Document>,
     /// What stands for each that wasn't handed out.
-    absent: Box<Document<'a>>,
+    absent: Box<Document>,
 }
 
-impl<'a> Documents<'a> {
+impl Documents {
     /// Reads each document that was handed out, but for those whose imports are known. Where a path stands twice its first
-    /// entry counts.
+    /// entry counts. No text is copied.
     pub fn read(
         alloc: Global,
-        entries: &'a [(Path, Held)],
-        absent: &'a Held,
+        snapshot: Snapshot,
         known: &[Option<&[Name]>],
-    ) -> Result<Documents<'a>, NoMemory>
-        requires absent { absent.now ≡ helds.Absent }
-        requires texts { All (λ entry. IsReadable entry.1) entries.now }
-        requires known { AreKnown entries.now known.now }
+    ) -> Result<Documents, NoMemory>
+        requires texts { All (λ entry. IsReadable entry.1) snapshot.entries }
+        requires known { AreKnown snapshot.entries known.now }
         ensures are { IfOk result AreDocuments }
-        ensures entries { IfOk result (λ documents. documents.entries.now ≡ entries.now) }
+        ensures entries { IfOk result (λ documents. handed_out documents ≡ snapshot.entries) }
     {
-        let mut by_path = IndexMap::new(alloc);
-        let mut left = entries.len();
-        'entries: while left > 0 {
-            left -= 1;
-            let (path, held) = &entries[left];
-            let document = Document::new(alloc, held, known_at(known, left))?;
-            put(&mut by_path, path.copy(alloc)?, document)?;
-        }
-        let absent = Box::new(alloc, Document::read(alloc, absent)?)?;
+        let entries = shared(alloc, snapshot)?;
+        let by_path = read_all(alloc, entries.as_slice(), known)?;
+        let nothing = Arc::new(alloc, Held::Absent)?;
+        let absent = Box::new(alloc, Document::read(alloc, nothing)?)?;
         Ok(Documents {
             entries,
             by_path,
@@ -139,12 +146,47 @@ impl<'a> Documents<'a> {
     }
 
     /// The document at a path. Takes no memory.
-    pub fn of(&self, path: &Path) -> &Document<'a>
+    pub fn of(&self, path: &Path) -> &Document
         requires { AreDocuments self.now }
-        ensures { IsDocument (handed_at self.now.entries.now path.now) result.now }
+        ensures { IsDocument (handed_at (handed_out self.now) path.now) result.now }
     {
         self.by_path.get(path).unwrap_or(&*self.absent)
     }
+}
+
+/// Moves each text that was handed out to where it can be shared.
+fn shared(alloc: Global, snapshot: Snapshot) -> Result<Vec<(Path, Arc<Held>)>, NoMemory>
+    ensures { IfOk result (λ shared. shown_in shared.items ≡ snapshot.entries) }
+{
+    let Snapshot { entries } = snapshot;
+    let mut shared = Vec::new(alloc);
+    'entries: for (path, held) in entries.into_vec() {
+        let held = Arc::new(alloc, held)?;
+        shared.push((path, held))?;
+    }
+    Ok(shared)
+}
+
+/// Reads each of these documents, but for those whose imports are known.
+fn read_all(
+    alloc: Global,
+    entries: &[(Path, Arc<Held>)],
+    known: &[Option<&[Name]>],
+) -> Result<IndexMap<Path, Document>, NoMemory>
+    requires texts { All (λ entry. IsReadable entry.1) (shown_in entries.now) }
+    requires known { AreKnown (shown_in entries.now) known.now }
+    ensures { IfOk result (λ by_path. AreRead (shown_in entries.now) by_path) }
+{
+    let mut by_path = IndexMap::new(alloc);
+    let mut left = entries.len();
+    'entries: while left > 0 {
+        left -= 1;
+        let (path, held) = &entries[left];
+        let own = held.clone()?;
+        let document = Document::new(alloc, own, known_at(known, left))?;
+        put(&mut by_path, path.copy(alloc)?, document)?;
+    }
+    Ok(by_path)
 }
 
 /// The names that are known to be imported by the document at an index.
@@ -159,12 +201,12 @@ fn known_at<'a>(known: &[Option<&'a [Name]>], index: usize) -> Option<&'a [Name]
 }
 
 /// Puts a document at its path, in the place of any other.
-fn put<'a>(
-    by_path: &mut IndexMap<Path, Document<'a>>,
+fn put(
+    by_path: &mut IndexMap<Path, Document>,
     path: Path,
-    document: Document<'a>,
+    document: Document,
 ) -> Result<(), NoMemory>
-    ensures { OnOk result ((other : List ℕ) → get bytes_eq by_path.new other ≡ (if bytes_eq path other then Some document.entry else get bytes_eq by_path.old other)) }
+    ensures { OnOk result ((other : List ℕ) → get bytes_eq by_path.new other ≡ (if bytes_eq path other then Some document else get bytes_eq by_path.old other)) }
 {
     let old = by_path.insert(path, document)?;
     let_go(old);

@@ -12,6 +12,7 @@ use ob_text::{Held, Name, NoMemory, Path, Text};
 use oberon_module::{Checked, check_module};
 use oberon_types::View;
 use std::alloc::Global;
+use std::sync::Arc;
 use std::test::Fail;
 
 /// The key of a pair.
@@ -37,7 +38,7 @@ pub fn held_of(alloc: Global, text: &str) -> Result<Held, Fail>
 /// The check of a text that imports nothing.
 pub fn fact_alone(alloc: Global, name: &str, text: &str) -> Result<Fact, Fail> {
     let stem = Name::new(alloc, name.as_bytes())?;
-    let held = held_of(alloc, text)?;
+    let held = Arc::new(alloc, held_of(alloc, text)?)?;
     let checked = check_alone(alloc, &stem, &held)?;
     Ok(alone(alloc, held, stem, checked))
 }
@@ -56,8 +57,8 @@ fn check_alone(alloc: Global, stem: &Name, held: &Held) -> Result<Checked, Fail>
     Ok(checked)
 }
 
-fn alone(alloc: Global, held: Held, stem: Name, checked: Checked) -> Fact
-    requires local { Local held stem (view_in [])
+fn alone(alloc: Global, held: Arc<Held>, stem: Name, checked: Checked) -> Fact
+    requires local { Local held.value stem (view_in [])
         checked.list.items checked.imports.items (plain_view checked.view) }
     requires imports { checked.imports.items ≡ [] }
 {
@@ -75,7 +76,7 @@ pub fn fact_importing(
     number: u64,
 ) -> Result<Fact, Fail> {
     let stem = Name::new(alloc, b"A")?;
-    let held = held_of(alloc, text)?;
+    let held = Arc::new(alloc, held_of(alloc, text)?)?;
     let name = Name::new(alloc, name.as_bytes())?;
     let checked = check_importing(alloc, &stem, &held, &name, view)?;
     Ok(importing(alloc, held, stem, checked, name, view, number)?)
@@ -132,14 +133,14 @@ fn same_name(a: &Name, b: &Name) -> bool
 
 fn importing(
     alloc: Global,
-    held: Held,
+    held: Arc<Held>,
     stem: Name,
     checked: Checked,
     name: Name,
     view: &View,
     number: u64,
 ) -> Result<Fact, NoMemory>
-    requires local { Local held stem (view_in ((name, plain_view view.now) ∷ []))
+    requires local { Local held.value stem (view_in ((name, plain_view view.now) ∷ []))
         checked.list.items checked.imports.items (plain_view checked.view) }
     requires imports { checked.imports.items ≡ name ∷ [] }
 {

@@ -6,11 +6,12 @@ use iface_key::Key;
 use ob_text::{Held, Name};
 use oberon_module::Checked;
 use std::marker::Model;
+use std::sync::Arc;
 
 /// A check that was made, with what it followed from. It is one by the rules, by what its type keeps.
 #[derive(Drop)]
 pub struct Fact {
-    held: Held,
+    held: Arc<Held>,
     stem: Name,
     /// Each import with the number of the key of what it showed.
     imports: Vec<(Name, u64)>,
@@ -28,24 +29,24 @@ impl Model for Fact {
 
     ghost coded = { Prim.hlevel (codes, checks.the_row.coded) };
 
-    ghost view = { λ f. fact_of f.held f.stem f.imports.items f.keys.items f.checked };
+    ghost view = { λ f. fact_of f.held.value f.stem f.imports.items f.keys.items f.checked };
 
-    ghost invariant = { λ f. IsFact (fact_of f.held f.stem f.imports.items f.keys.items f.checked) };
+    ghost invariant = { λ f. IsFact (fact_of f.held.value f.stem f.imports.items f.keys.items f.checked) };
 }
 
 impl Fact {
     ghost use Rattle.check_cache.specs.Wanted.{HasText, IsOf};
 
-    /// Keeps a check. Takes no memory.
+    /// Keeps a check, and the text by sharing it. Takes no memory.
     pub fn new(
-        held: Held,
+        held: Arc<Held>,
         stem: Name,
         imports: Vec<(Name, u64)>,
         keys: Vec<Key>,
         checked: Checked,
     ) -> Fact
-        requires { IsFact (fact_of held stem imports.items keys.items checked) }
-        ensures { result ≡ fact_of held stem imports.items keys.items checked }
+        requires { IsFact (fact_of held.value stem imports.items keys.items checked) }
+        ensures { result ≡ fact_of held.value stem imports.items keys.items checked }
     {
         Fact {
             held,

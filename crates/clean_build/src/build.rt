@@ -9,26 +9,26 @@ ghost use Rattle.clean_build.specs.Build.{HasListAt};
 
 use build_plan::Plan;
 use build_sources::{Sources, first_views, set_of};
-use ob_text::{Diagnostic, Held, NoMemory, Snapshot};
+use ob_text::{Diagnostic, NoMemory, Snapshot};
 use oberon_module::Checked;
 use oberon_types::View;
 use std::alloc::Global;
+use std::sync::Arc;
 use target_graph::Workspace;
 
 /// The lists of the clean build for some modules, which are indices of pairs, in the order in which they are given. Each
 /// document is read once, and each module checked once, behind those that it imports.
 pub fn clean_build(
     alloc: Global,
-    workspace: &Workspace,
+    workspace: Arc<Workspace>,
     modules: &[u32],
-    snapshot: &Snapshot,
+    snapshot: Snapshot,
 ) -> Result<Vec<Vec<Diagnostic>>, NoMemory>
-    requires modules { AreModules workspace.now.targets modules.now }
-    requires texts { All (λ entry. IsReadable entry.1) snapshot.now.entries }
-    ensures { IfOk result (λ found. AreLists (record { targets = workspace.now.targets; entries = snapshot.now.entries }) modules.now (lists found)) }
+    requires modules { AreModules workspace.value.targets modules.now }
+    requires texts { All (λ entry. IsReadable entry.1) snapshot.entries }
+    ensures { IfOk result (λ found. AreLists (record { targets = workspace.value.targets; entries = snapshot.entries }) modules.now (lists found)) }
 {
-    let absent = Held::Absent;
-    let sources = Sources::new(alloc, workspace, snapshot, &absent, &[])?;
+    let sources = Sources::new(alloc, workspace, snapshot, &[])?;
     in_order(alloc, &sources, modules)
 }
 
@@ -39,14 +39,14 @@ fn check_all(
     modules: &[u32],
 ) -> Result<Vec<Option<Vec<Diagnostic>>>, NoMemory>
     requires sources { AreSources sources.now }
-    requires modules { AreModules sources.now.workspace.now.targets modules.now }
+    requires modules { AreModules sources.now.workspace.value.targets modules.now }
     ensures { IfOk result (λ lists. (p : ℕ) → Contains modules.now p → HasListAt (world sources.now) lists.items p) }
 {
     let wanted = set_of(alloc, modules)?;
-    let count = sources.workspace.pairs().len();
+    let size = sources.count();
     let mut plan = Plan::new(alloc, sources.rows(alloc)?)?;
-    let mut views = first_views(alloc, &plan, count)?;
-    let mut lists = no_lists(alloc, count)?;
+    let mut views = first_views(alloc, &plan, size)?;
+    let mut lists = no_lists(alloc, size)?;
     'modules: while let Some(module) = plan.ready() {
         if wanted.contains(&module) {
             let checked = sources.check(alloc, module, views.as_slice())?;
@@ -100,7 +100,7 @@ fn in_order(
     modules: &[u32],
 ) -> Result<Vec<Vec<Diagnostic>>, NoMemory>
     requires sources { AreSources sources.now }
-    requires modules { AreModules sources.now.workspace.now.targets modules.now }
+    requires modules { AreModules sources.now.workspace.value.targets modules.now }
     ensures { IfOk result (λ found. AreLists (world sources.now) modules.now (lists found)) }
 {
     let mut slots = check_all(alloc, sources, modules)?;

@@ -38,18 +38,36 @@ fn first_code(outcome: &Outcome) -> Result<Option<Code>, Fail> {
     }
 }
 
-/// The job and its outcome come back as they were given.
+/// An outcome is that of its job.
 #[test]
-fn gives_the_job_back(rt: HostRuntime) -> Result<(), Fail> {
+fn outcome_has_its_job(rt: HostRuntime) -> Result<(), Fail> {
     let alloc = rt.alloc();
     let outcome = job_by(alloc, "MODULE A; END A.", Some(false), true)?.run(alloc);
     assert_eq!(rt; outcome.number(), 7);
     assert_eq!(rt; outcome.job().number, 7);
     let (job, _done) = outcome.into_parts();
-    let Work::Check(check) = job.work;
+    assert_eq!(rt; job.number, 7);
+    Ok(())
+}
+
+/// A check shows what it is made of.
+#[test]
+fn check_shows_its_parts(rt: HostRuntime) -> Result<(), Fail> {
+    let alloc = rt.alloc();
+    let Work::Check(check) = job_by(alloc, "MODULE A; END A.", Some(false), true)?.work;
     assert_eq!(rt; check.held(), &held_of(alloc, "MODULE A; END A.")?);
     assert_eq!(rt; check.stem().as_slice(), b"A".as_slice());
     assert_eq!(rt; check.views().len(), 1);
+    Ok(())
+}
+
+/// A job that was done comes back with what it was given.
+#[test]
+fn gives_the_check_back(rt: HostRuntime) -> Result<(), Fail> {
+    let alloc = rt.alloc();
+    let outcome = job_by(alloc, "MODULE A; END A.", Some(false), true)?.run(alloc);
+    let (job, _done) = outcome.into_parts();
+    let Work::Check(check) = job.work;
     let (held, stem, views) = check.into_parts();
     assert_eq!(rt; &*held, &held_of(alloc, "MODULE A; END A.")?);
     assert_eq!(rt; stem.as_slice(), b"A".as_slice());

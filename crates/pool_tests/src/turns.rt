@@ -30,7 +30,8 @@ fn does_the_oldest(rt: HostRuntime) -> Result<(), Fail> {
 }
 
 /// An order, calls of a crew that does its jobs in it, and its answers.
-const ORDERED: [(&[u32], &str, &str); 7] = [
+const ORDERED: [(&[u32], &str, &str); 8] = [
+    (&[1, 0], "ggwcwc", "+1+0"),
     (&[], "gggwcwcwcw", "+0+1+2-"),
     (&[2], "gggwcwcwc", "+2+0+1"),
     (&[1, 1], "gggwcwcwc", "+1+2+0"),

@@ -1,5 +1,5 @@
 -- Once all documents of a build are settled and its reports are told, its course is whole.
-use Rattle.std.proofs.Common.{◌≡◌, ◌⊎◌, inl, inr, ◌<◌, ◌≤◌, ◌++◌, ℕ, List, [], ◌∷◌, length, get_or, map, Bool, Option, Some, option_map, refl, sym, ap, subst, ◌∙◌, arith}
+use Rattle.std.proofs.Common.{◌≡◌, ◌⊎◌, inl, inr, ◌<◌, ◌≤◌, ◌++◌, ℕ, List, [], ◌∷◌, length, get_or, Bool, Option, Some, option_map, refl, sym, ap, subst, ◌∙◌, arith}
 use Rattle.std.specs.List.{All, AllPairs, AllZip, Contains, list_any, slice_get}
 use Rattle.std.proofs.lemmas.Bool.{cases_lt}
 use Rattle.std.proofs.lemmas.List.{length-map}
@@ -22,7 +22,6 @@ use Rattle.session_law.proofs.StageLaws.{stage_sound}
 use Rattle.session_law.proofs.StartLaws.{NumbersFit}
 use Rattle.session_build.specs.Ending.{ends_said}
 use Rattle.session_build.specs.Going.{GoesThrough, IsGoing, all_running, pairs_made, told_by}
-use Rattle.session_build.specs.Outgoing.{outgoing_said}
 use Rattle.session_build.specs.Setting.{IsSettingOf}
 use Rattle.session_build.specs.Stages.{IsOnCourse, pairs_running}
 use Rattle.session_build.specs.Tallies.{AreTallied, has_errors}
@@ -79,7 +78,7 @@ pub record Ends (g : Given) (messages : List Said) (table : Table) (failed : Boo
   pub begun : (q : ℕ) → Contains ended.stage.begun q → Contains made q
 
 module _ (g : Given) (at : Setting) (of : IsSettingOf at g) (s : Stage) (messages : List Said) (table : Table) (on : IsOnCourse g s messages table)
-    (tallies : List Tally) (sized : length tallies ≡ length at.documents.now) (tallied : AreTallied g.documents s tallies)
+    (tallies : List Tally) (sized : length tallies ≡ length at.documents) (tallied : AreTallied g.documents s tallies)
     (all : (document : BuildDocument) → Contains g.documents document → Contains (pairs_in s.settled) document.pair) where
   stage : sound.IsSound g s
   stage = stage_sound on.course
@@ -154,7 +153,7 @@ module _ (g : Given) (at : Setting) (of : IsSettingOf at g) (s : Stage) (message
 
 -- ---- from how far the build is
 
-module _ (g : Given) (at : Setting) (going : Going) (keys : List (List ℕ)) (table : Table) (is : IsGoing g at going keys table) (idle : going.jobs.items ≡ []) (through : GoesThrough going.checks) where
+module _ (g : Given) (at : Setting) (going : Going) (told : List Said) (keys : List (List ℕ)) (table : Table) (is : IsGoing g at going told keys table) (idle : going.jobs.items ≡ []) (through : GoesThrough going.checks) where
   begun_made : (q : ℕ) → Contains is.stage.begun q → Contains (pairs_made going.made.items) q
   begun_made q there = by (is.begun.begun q there)
     where
@@ -174,22 +173,23 @@ module _ (g : Given) (at : Setting) (going : Going) (keys : List (List ℕ)) (ta
       (is.agrees.settled_are document.pair).1
       (through taken_settled document.pair ((is.agrees.modules_are document.pair).0 (contains_map (λ (d : BuildDocument). d.pair) g.documents document there)))
 
-  pub going_ends : (sized : length going.tallies.items ≡ length at.documents.now)
-      → Ends g (map outgoing_said going.messages.items ++ ends_said at going.tallies.items) table (list_any has_errors going.tallies.items) (pairs_made going.made.items)
+  pub going_ends : (sized : length going.tallies.items ≡ length at.documents)
+      → Ends g (told ++ ends_said at going.tallies.items) table (list_any has_errors going.tallies.items) (pairs_made going.made.items)
   going_ends sized =
-      ends g at is.of_setting is.stage (map outgoing_said going.messages.items) table is.on going.tallies.items sized is.tallied all_settled
+      ends g at is.of_setting is.stage told table is.on going.tallies.items sized is.tallied all_settled
       (pairs_made going.made.items) begun_made
 
-  -- each of which a check was made was checked
-  pub made_checked : All (λ q. HasChecked (told_by g (map outgoing_said going.messages.items ++ ends_said at going.tallies.items)) (key_at at.workspace.now q)) (pairs_made going.made.items)
-  made_checked =
-      let messages : List Said = map outgoing_said going.messages.items in
-      let more : List Said = ends_said at going.tallies.items in
-      All-map (λ q. HasChecked (told_by g (messages ++ more)) (key_at at.workspace.now q)) (λ (it : Made). it.pair) going.made.items
-      (All-weaker (λ (it : Made). HasChecked (told_by g messages) (key_at at.workspace.now it.pair)) (λ (it : Made). HasChecked (told_by g (messages ++ more)) (key_at at.workspace.now it.pair))
-      (λ it checked. checked_still g messages more (key_at at.workspace.now it.pair) checked) going.made.items is.checked)
+-- ---- which documents were checked
 
--- ---- and no other was
+-- each of which a check was made was, whatever is told later
+pub made_checked : (g : Given) (at : Setting) (going : Going) (told more : List Said) (keys : List (List ℕ)) (table : Table) → IsGoing g at going told keys table
+    → All (λ q. HasChecked (told_by g (told ++ more)) (key_at at.workspace.value q)) (pairs_made going.made.items)
+made_checked g at going told more keys table is =
+    All-map (λ q. HasChecked (told_by g (told ++ more)) (key_at at.workspace.value q)) (λ (it : Made). it.pair) going.made.items
+    (All-weaker (λ (it : Made). HasChecked (told_by g told) (key_at at.workspace.value it.pair)) (λ (it : Made). HasChecked (told_by g (told ++ more)) (key_at at.workspace.value it.pair))
+    (λ it checked. checked_still g told more (key_at at.workspace.value it.pair) checked) going.made.items is.checked)
+
+-- and no other was
 
 module _ (space : Space) (apart : AllPairs (AreApart space) (pairs_of space.targets)) where
   one_key : (p q : ℕ) (a b : Pair) → slice_get (pairs_of space.targets) p ≡ Some a → slice_get (pairs_of space.targets) q ≡ Some b → key_at space p ≡ key_at space q → p ≡ q
@@ -209,16 +209,21 @@ module _ (space : Space) (apart : AllPairs (AreApart space) (pairs_of space.targ
       by (inr h) (inl k) = absurd (keys_apart space targets apart q p k second first (sym same))
       by (inr h) (inr k) = omega arith
 
-  pub not_made_unchecked : (g : Given) (documents : AreDocuments g.active.build g.documents) → g.active.build.space ≡ space → NumbersFit g.active
-      → {messages : List Said} {table : Table} {failed : Bool} {made : List ℕ} → Ends g messages table failed made
-      → (p : ℕ) (pair : Pair) → slice_get (pairs_of space.targets) p ≡ Some pair → ¬ (Contains made p) → ¬ (HasChecked (told_by g messages) (key_at space p))
-  not_made_unchecked g documents of_space fit {made = made} ends p pair here absent =
-      not_checked ends.ended (key_at space p) fit (λ document there begun same.
-      (let from = contains_map_back (build_document g.active.build.space) documents.pairs document (subst (λ (ds : List BuildDocument). Contains ds document) documents.are there) in
+  -- a document of the build with the key of a pair is the one of that pair
+  pub pair_by_key : (g : Given) (documents : AreDocuments g.active.build g.documents) → g.active.build.space ≡ space
+      → (p : ℕ) (pair : Pair) → slice_get (pairs_of space.targets) p ≡ Some pair → (document : BuildDocument) → Contains g.documents document → document.key ≡ key_at space p → document.pair ≡ p
+  pair_by_key g documents of_space p pair here document there same =
+      let from = contains_map_back (build_document g.active.build.space) documents.pairs document (subst (λ (ds : List BuildDocument). Contains ds document) documents.are there) in
       let of : IsPairOf g.active.build.space.targets documents.closure from.0 =
       All-contains (IsPairOf g.active.build.space.targets documents.closure) documents.pairs from.0 documents.each from.1 in
       let its : slice_get (pairs_of space.targets) from.0 ≡ Some of.pair = subst (λ (w : Space). slice_get (pairs_of w.targets) from.0 ≡ Some of.pair) of_space of.there in
       let key : key_at space from.0 ≡ key_at space p =
       ap (λ (w : Space). key_at w from.0) (sym of_space) ∙ (ap (λ (d : BuildDocument). d.key) from.2 ∙ same) in
-      let pair_is : document.pair ≡ p = ap (λ (d : BuildDocument). d.pair) (sym from.2) ∙ one_key from.0 p of.pair pair its here key in
-      absent (subst (Contains made) pair_is (ends.begun document.pair begun))))
+      ap (λ (d : BuildDocument). d.pair) (sym from.2) ∙ one_key from.0 p of.pair pair its here key
+
+  pub not_made_unchecked : (g : Given) (documents : AreDocuments g.active.build g.documents) → g.active.build.space ≡ space → NumbersFit g.active
+      → {messages : List Said} {table : Table} {failed : Bool} {made : List ℕ} → Ends g messages table failed made
+      → (p : ℕ) (pair : Pair) → slice_get (pairs_of space.targets) p ≡ Some pair → ¬ (Contains made p) → ¬ (HasChecked (told_by g messages) (key_at space p))
+  not_made_unchecked g documents of_space fit {made = made} ends p pair here absent =
+      not_checked ends.ended (key_at space p) fit (λ document there begun same.
+      absent (subst (Contains made) (pair_by_key g documents of_space p pair here document there same) (ends.begun document.pair begun)))

@@ -1,53 +1,27 @@
 -- The reports of the targets: by tallies they are what the law says by findings.
-use Rattle.std.proofs.Common.{◌≡◌, ◌<◌, ◌+◌, ◌++◌, ◌||◌, ℕ, suc, List, [], ◌∷◌, length, map, drop, Bool, true, false, Some, nat_lt, refl, sym, ap, subst, ◌∙◌, arith, append_assoc}
-use Rattle.std.specs.Prelude.{cond, if◌then◌else◌, slice_index}
+use Rattle.std.proofs.Common.{◌≡◌, ◌+◌, ◌++◌, ◌||◌, ℕ, suc, List, [], ◌∷◌, length, map, Bool, true, false, Some, nat_lt, refl, sym, ap, subst, ◌∙◌, arith}
+use Rattle.std.specs.Prelude.{cond, if◌then◌else◌}
 use Rattle.std.specs.List.{All, AllZip, filter, fold, list_any, slice_get}
 use Rattle.std.specs.Str.{bytes_eq}
 use Rattle.std.proofs.lemmas.Bool.Decides.{Decides-ltb}
-use Rattle.std.proofs.lemmas.List.{drop_more, map-append}
-use Rattle.std.proofs.lemmas.List.Elements.{All-append, All-cons, All-nil, All-push}
+use Rattle.std.proofs.lemmas.List.Elements.{All-append, All-cons, All-nil}
 use Rattle.std.proofs.lemmas.Option.{same_Some}
 use Rattle.ob_text.specs.declared.diagnostic.Diagnostic.{Diagnostic}
 use Rattle.rpc_peer.specs.Said.{Said}
 use Rattle.session_law.specs.Builds.{Finding, build_status, has_error}
 use Rattle.session_law.specs.Course as law
 use Rattle.session_law.specs.Course.{Given, Stage, all_finish, count_errors, count_warnings, has_begun, is_error, no_op_of, of_target, targets_finish}
-use Rattle.session_law.specs.IsFramed.{IsFramed}
 use Rattle.session_law.specs.Past.{notice_in}
 use Rattle.session_law.specs.Tasks.{build_finishes, target_finishes}
 use Rattle.session_law.specs.declared.BuildDocument.{BuildDocument}
 use Rattle.session_build.specs.Ending.{ends_said, no_op_by, report_of, target_reported, targets_reported}
-use Rattle.session_build.specs.Outgoing.{outgoing_said}
 use Rattle.session_build.specs.Tallies.{IsCount, IsTallied, has_errors, no_tally, tally_from, with_tally}
-use Rattle.session_build.specs.declared.outgoing.Outgoing.{Outgoing}
 use Rattle.session_build.specs.declared.setting.Setting.{Setting}
 use Rattle.session_build.specs.declared.tally.Tally.{Tally}
 use Rattle.session_build.proofs.CourseSteps.{finish_told}
 use Rattle.target_graph.specs.Workspace.{Space, id_of}
 
--- ---- one message more
-
-pub said_more : (mid new : List Outgoing) (m : Outgoing) (s : Said) (rest all : List Said) → new ≡ mid ++ m ∷ [] → outgoing_said m ≡ s
-    → map outgoing_said mid ++ s ∷ rest ≡ all → map outgoing_said new ++ rest ≡ all
-said_more mid new m s rest all is said before =
-    ap (λ (ms : List Outgoing). map outgoing_said ms ++ rest) is
-    ∙ (ap (λ (ms : List Said). ms ++ rest) (map-append outgoing_said mid (m ∷ []))
-    ∙ (append_assoc (map outgoing_said mid) (outgoing_said m ∷ []) rest
-    ∙ (ap (λ (x : Said). map outgoing_said mid ++ x ∷ rest) said ∙ before)))
-
-pub framed_more : (mid new : List Outgoing) (m : Outgoing) → new ≡ mid ++ m ∷ [] → IsFramed (outgoing_said m) → All IsFramed (map outgoing_said mid) → All IsFramed (map outgoing_said new)
-framed_more mid new m is framed before =
-    subst (All IsFramed) (sym (ap (map outgoing_said) is ∙ map-append outgoing_said mid (m ∷ [])))
-    (All-push IsFramed (map outgoing_said mid) (outgoing_said m) before framed)
-
-pub reported_drop : (at : Setting) (tallies : List Tally) (targets : List ℕ) (place : ℕ) → place < length targets
-    → target_reported at tallies (place + 1) (slice_index targets place) ∷ targets_reported at tallies (place + 1 + 1) (drop (place + 1) targets)
-    ≡ targets_reported at tallies (place + 1) (drop place targets)
-reported_drop at tallies targets place h =
-    let next : suc (place + 1) ≡ place + 1 + 1 = omega arith in
-    sym
-    (ap (targets_reported at tallies (place + 1)) (drop_more targets place 0 h)
-    ∙ ap (λ n. target_reported at tallies (place + 1) (slice_index targets place) ∷ targets_reported at tallies n (drop (place + 1) targets)) next)
+-- ---- what is told
 
 -- each is a notification
 abbrev pub IsTold : Said → Type 0
@@ -156,12 +130,12 @@ failed_same s (finding ∷ findings) (tally ∷ tallies) each =
 -- ---- the reports
 
 module _ (g : Given) (at : Setting) (s : Stage) (findings : List Finding) (tallies : List Tally) (each : AllZip (CountsIn s) findings tallies)
-    (space : g.active.build.space ≡ at.workspace.now) (number : g.active.number ≡ at.number) (origin : g.active.build.origin ≡ at.origin.value)
-    (documents : documents_in findings ≡ at.documents.now) (closure : g.closure ≡ at.targets.keys) where
+    (space : g.active.build.space ≡ at.workspace.value) (number : g.active.number ≡ at.number) (origin : g.active.build.origin ≡ at.origin.value)
+    (documents : documents_in findings ≡ at.documents) (closure : g.closure ≡ at.targets.keys) where
   report_same : (id : List ℕ) → report_of at tallies id ≡ law.report_of g s findings id
   report_same id =
       let sum = summed id s findings tallies each no_tally in
-      let whole : tally_from id no_tally at.documents.now tallies ≡ tally_from id no_tally (documents_in findings) tallies =
+      let whole : tally_from id no_tally at.documents tallies ≡ tally_from id no_tally (documents_in findings) tallies =
       ap (λ (ds : List BuildDocument). tally_from id no_tally ds tallies) (sym documents) in
       let begun = ap (λ (t : Tally). no_op_by t.begun) whole ∙ ap no_op_by sum.begun_is in
       let errors = ap (λ (t : Tally). t.errors) whole ∙ sum.errors_are in
@@ -171,7 +145,7 @@ module _ (g : Given) (at : Setting) (s : Stage) (findings : List Finding) (talli
 
   target_same : (i target : ℕ) → target_reported at tallies i target ≡ target_finishes g.active.number i (law.report_of g s findings (id_of g.active.build.space target))
   target_same i target =
-      ap (target_finishes at.number i) (report_same (id_of at.workspace.now target))
+      ap (target_finishes at.number i) (report_same (id_of at.workspace.value target))
       ∙ (ap (λ (w : Space). target_finishes at.number i (law.report_of g s findings (id_of w target))) (sym space)
       ∙ ap (λ n. target_finishes n i (law.report_of g s findings (id_of g.active.build.space target))) (sym number))
 

@@ -1,7 +1,6 @@
 -- A check that runs finishes, and its document is settled.
 use Rattle.std.proofs.Common.{◌≡◌, ◌≢◌, ◌++◌, ℕ, List, [], ◌∷◌, length, get_or, map, true, Option, Some, ap, sym, subst, ◌∙◌, refl, arith}
 use Rattle.std.specs.Prelude.{Vec}
-use Rattle.std.specs.declared.collections.VecDeque.{VecDeque}
 use Rattle.std.specs.declared.alloc.Global.{Global}
 use Rattle.std.specs.List.{All, AllPairs, Contains, slice_get}
 use Rattle.std.proofs.lemmas.List.{map-append}
@@ -10,7 +9,6 @@ use Rattle.std.proofs.lemmas.Option.{slice_get_within}
 use Rattle.bsp_records.specs.Table.{Table}
 use Rattle.build_checks.specs.Kept.{AreNumbered, IsKept}
 use Rattle.build_checks.specs.Stand as stand
-use Rattle.build_checks.specs.Numbers.{AreNumbersOf}
 use Rattle.build_checks.specs.Stand.{modules_of, settled_of, taken_of, world_of}
 use Rattle.build_checks.proofs.KeptLaws.{kept_list, kept_on, kept_view, numbered_on}
 use Rattle.check_cache.specs.Facts.{FactTree, IsFact}
@@ -25,7 +23,6 @@ use Rattle.session_law.proofs.HistoryLaws.{checked_still}
 use Rattle.session_law.proofs.ListLaws.{contains_at}
 use Rattle.session_law.proofs.StageLaws.{stage_sound}
 use Rattle.session_build.specs.Going.{HasToldStart, IsGoing, IsGoingWith, SettlesBy, all_running, pairs_made, running_of, told_by}
-use Rattle.session_build.specs.Outgoing.{outgoing_said}
 use Rattle.session_build.specs.Publishing.{IsPublishedOne}
 use Rattle.session_build.specs.Setting.{IsSetting}
 use Rattle.session_build.specs.Stages.{AreBegun, IsOnCourse, IsRunning}
@@ -33,15 +30,13 @@ use Rattle.session_build.specs.Tallies.{AreTallied, IsCount}
 use Rattle.session_build.specs.declared.going.Going.{Going}
 use Rattle.session_build.specs.declared.going.Job.{Job}
 use Rattle.session_build.specs.declared.going.Made.{Made}
-use Rattle.session_build.specs.declared.outgoing.Outgoing.{Outgoing}
 use Rattle.session_build.specs.declared.setting.Setting.{Setting}
 use Rattle.session_build.proofs.CourseSteps.{apart_settled}
-use Rattle.session_build.proofs.RememberLaws.{remembers_on}
 use Rattle.session_build.proofs.StageLaws.{adds_push}
 use Rattle.session_build.proofs.TallyLaws.{tallied_settled}
 use Rattle.target_graph.specs.Workspace.{Space}
 use Rattle.session_build.proofs.GoingLaws.{agrees_same, once_in, one_document}
-use Rattle.session_build.proofs.CourseSteps.{on_checked}
+use Rattle.session_build.proofs.CourseSteps.{on_checked, published_behind}
 use Rattle.session_build.proofs.GoingLaws.{document_there, keys_distinct, pairs_distinct}
 use Rattle.session_build.proofs.Members.{one_of_image}
 use Rattle.session_build.proofs.StageLaws.{agrees_checked, begun_checked, none_here}
@@ -52,35 +47,34 @@ use Rattle.session_law.specs.Tasks.{check_finishes}
 use Rattle.std.proofs.lemmas.List.Elements.{All-head, All-tail}
 use Rattle.std.proofs.lemmas.List.{append_assoc}
 
-module _ (at : Setting) (is : IsSetting at) (g : Given) (old mid : Going) (job : Job) (told : VecDeque Outgoing Global) (m : Outgoing) (made : Vec Made Global) (keys later : List (List ℕ)) (table shown : Table)
-    (none : (p : ℕ) → ¬ (stand.CanBeTaken old.checks p)) (fact : FactTree) (is_fact : IsFact fact)
-    (kept : (ks : List (List ℕ)) → AreNumbersOf ks old.checks → AreNumbered ks (world_of old.checks) job.pair job.imports.items → IsKept ks (world_of old.checks) job.pair fact)
-    (told_is : told.items ≡ old.messages.items ++ m ∷ [])
-    (said : outgoing_said m ≡ check_finishes at.number job.number job.target (build_status (has_error (record { document = build_document at.workspace.now job.pair; list = fact.checked.list.items }))))
-    (framed : IsFramed (outgoing_said m)) (sized : length old.tallies.items ≡ length at.documents.now)
-    (settles : SettlesBy at (record old { messages = told }) mid job.pair true fact keys later table shown)
+module _ (at : Setting) (is : IsSetting at) (g : Given) (old mid : Going) (job : Job) (told queued after : List Said) (made : Vec Made Global) (keys later : List (List ℕ)) (table shown : Table)
+    (none : (p : ℕ) → ¬ (stand.CanBeTaken old.checks p)) (fact : FactTree) (is_fact : IsFact fact) (kept_here : IsKept keys (world_of old.checks) job.pair fact)
+    (framed : IsFramed (check_finishes at.number job.number job.target (build_status (has_error (record { document = build_document at.workspace.value job.pair; list = fact.checked.list.items })))))
+    (sized : length old.tallies.items ≡ length at.documents) (settles : SettlesBy at old mid job.pair true fact keys later table shown queued after)
     (made_is : made.items ≡ mid.made.items ++ record { pair = job.pair; fact = fact } ∷ [])
-    (going : IsGoingWith g at old (job ∷ old.jobs.items) keys table) where
+    (going : IsGoingWith g at old (job ∷ old.jobs.items) told keys table) where
   abbrev document : BuildDocument
-  document = build_document at.workspace.now job.pair
+  document = build_document at.workspace.value job.pair
 
   abbrev finding : Finding
-  finding = record { document = build_document at.workspace.now job.pair; list = fact.checked.list.items }
-
-  abbrev before : List Said
-  before = map outgoing_said old.messages.items
+  finding = record { document = build_document at.workspace.value job.pair; list = fact.checked.list.items }
 
   abbrev finish : Said
-  finish = check_finishes g.active.number job.number job.target (build_status (has_error finding))
+  finish =
+      check_finishes at.number job.number job.target (build_status (has_error (record { document = build_document at.workspace.value job.pair; list = fact.checked.list.items })))
 
-  own_space : g.active.build.space ≡ at.workspace.now
+  -- the same as a course says it
+  abbrev course_finish : Said
+  course_finish = check_finishes g.active.number job.number job.target (build_status (has_error finding))
+
+  own_space : g.active.build.space ≡ at.workspace.value
   own_space = going.of_setting.space
 
-  targets_are : (world_in g.active).targets ≡ at.workspace.now.targets
+  targets_are : (world_in g.active).targets ≡ at.workspace.value.targets
   targets_are = ap (λ (x : Space). x.targets) own_space
 
   there : Contains g.documents document
-  there = document_there at is g old (job ∷ old.jobs.items) keys table going settles.place job.pair settles.there
+  there = document_there at is g old (job ∷ old.jobs.items) told keys table going settles.place job.pair settles.there
 
   first : IsRunning g going.stage (running_of job)
   first = All-head (IsRunning g going.stage) (running_of job) (all_running old.jobs.items) going.begun.each
@@ -97,38 +91,33 @@ module _ (at : Setting) (is : IsSetting at) (g : Given) (old mid : Going) (job :
   task : IsTaskOf g.active document.key.target job.target
   task = subst (λ (d : BuildDocument). IsTaskOf g.active d.key.target job.target) same_document first.of_target
 
-  kept_here : IsKept keys (world_of old.checks) job.pair fact
-  kept_here =
-      kept keys going.numbers (All-head (λ (j : Job). AreNumbered keys (world_of old.checks) j.pair j.imports.items) job old.jobs.items going.numbered)
-
   kept_in : IsKept keys (world_in g.active) job.pair fact
   kept_in = subst (λ w. IsKept keys w job.pair fact) going.agrees.world_is kept_here
 
-  said_is : outgoing_said m ≡ finish
-  said_is = said ∙ ap (λ n. check_finishes n job.number job.target (build_status (has_error finding))) (sym going.of_setting.number)
+  finish_is : finish ≡ course_finish
+  finish_is = ap (λ n. check_finishes n job.number job.target (build_status (has_error finding))) (sym going.of_setting.number)
 
-  told_all : map outgoing_said told.items ≡ before ++ finish ∷ []
-  told_all =
-      ap (map outgoing_said) told_is ∙ (map-append outgoing_said old.messages.items (m ∷ []) ∙ ap (λ (x : Said). map outgoing_said old.messages.items ++ x ∷ []) said_is)
-
-  published_here : IsPublishedOne table shown document g.active.build.origin fact.checked.list.items (before ++ finish ∷ []) (map outgoing_said mid.messages.items) settles.failed
+  published_here : IsPublishedOne table shown document g.active.build.origin fact.checked.list.items (told ++ course_finish ∷ []) ((told ++ course_finish ∷ []) ++ settles.published.own) settles.failed
   published_here =
-      subst (λ (o : Option (List ℕ)). IsPublishedOne table shown document o fact.checked.list.items (before ++ finish ∷ []) (map outgoing_said mid.messages.items) settles.failed)
+      subst (λ (o : Option (List ℕ)). IsPublishedOne table shown document o fact.checked.list.items (told ++ course_finish ∷ []) ((told ++ course_finish ∷ []) ++ settles.published.own) settles.failed)
       (sym going.of_setting.origin)
-      (subst (λ (ms : List Said). IsPublishedOne table shown document at.origin.value fact.checked.list.items ms (map outgoing_said mid.messages.items) settles.failed) told_all settles.published)
+      (published_behind table shown document at.origin.value fact.checked.list.items queued after settles.failed (told ++ course_finish ∷ []) settles.published)
 
-  on : IsOnCourse g (with_checked going.stage finding) (map outgoing_said mid.messages.items) shown
+  on : IsOnCourse g (with_checked going.stage finding) (told ++ finish ∷ settles.published.own) shown
   on =
-      on_checked g going.stage before table finding job.number job.target shown (map outgoing_said mid.messages.items) settles.failed going.on
+      subst (λ (ms : List Said). IsOnCourse g (with_checked going.stage finding) ms shown)
+      (append_assoc told (course_finish ∷ []) settles.published.own ∙ ap (λ (m : Said). told ++ m ∷ settles.published.own) (sym finish_is))
+      (on_checked g going.stage told table finding job.number job.target shown ((told ++ course_finish ∷ []) ++ settles.published.own) settles.failed
+      (keys_distinct at is g old (job ∷ old.jobs.items) told keys table going) going.on
       (none_here g going.stage (world_of old.checks) (modules_of old.checks) (taken_of old.checks) (settled_of old.checks) going.agrees
       (λ p ready. none p (record { among = ready.among; is_new = ready.is_new; clear = ready.clear })))
       runs task there
       (kept_list keys (world_in g.active) job.pair fact kept_in is_fact (once_in at is (world_in g.active) targets_are))
-      (apart_settled g.documents going.stage.settled document (keys_distinct at is g old (job ∷ old.jobs.items) keys table going) (stage_sound going.on.course).documents there runs.unfinished)
-      (subst IsFramed said_is framed) published_here
+      (apart_settled g.documents going.stage.settled document (keys_distinct at is g old (job ∷ old.jobs.items) told keys table going) (stage_sound going.on.course).documents there runs.unfinished)
+      (subst IsFramed finish_is framed) published_here)
 
   jobs_same : mid.jobs.items ≡ old.jobs.items
-  jobs_same = ap (λ (v : VecDeque Job Global). v.items) settles.jobs
+  jobs_same = ap (λ (v : Vec Job Global). v.items) settles.jobs
 
   made_more : made.items ≡ old.made.items ++ record { pair = job.pair; fact = fact } ∷ []
   made_more = made_is ∙ ap (λ (v : Vec Made Global). v.items ++ record { pair = job.pair; fact = fact } ∷ []) settles.made
@@ -136,23 +125,20 @@ module _ (at : Setting) (is : IsSetting at) (g : Given) (old mid : Going) (job :
   pairs_more : pairs_made made.items ≡ pairs_made old.made.items ++ job.pair ∷ []
   pairs_more = ap pairs_made made_more ∙ map-append (λ (it : Made). it.pair) old.made.items (record { pair = job.pair; fact = fact } ∷ [])
 
-  messages_are : map outgoing_said mid.messages.items ≡ before ++ finish ∷ published_here.own
-  messages_are = published_here.messages ∙ append_assoc before (finish ∷ []) published_here.own
-
   start_key : build_document g.active.build.space job.pair ≡ document
   start_key = ap (λ (s : Space). build_document s job.pair) own_space
 
-  started_own : Contains before (check_starts g.active.number job.number job.target document.key.document)
+  started_own : Contains told (check_starts g.active.number job.number job.target document.key.document)
   started_own =
-      subst (λ (d : BuildDocument). Contains before (check_starts g.active.number job.number job.target d.key.document)) start_key
-      (All-head (HasToldStart g before) job old.jobs.items going.started)
+      subst (λ (d : BuildDocument). Contains told (check_starts g.active.number job.number job.target d.key.document)) start_key
+      (All-head (HasToldStart g told) job old.jobs.items going.started)
 
-  checked_own : HasChecked (told_by g (map outgoing_said mid.messages.items)) document.key
+  checked_own : HasChecked (told_by g (told ++ finish ∷ settles.published.own)) document.key
   checked_own =
-      subst (λ (ms : List Said). HasChecked (told_by g ms) document.key) (sym messages_are)
-      (checked_now g before published_here.own document.key job.number job.target (has_error finding) task started_own)
+      subst (λ (m : Said). HasChecked (told_by g (told ++ m ∷ settles.published.own)) document.key) (sym finish_is)
+      (checked_now g told settles.published.own document.key job.number job.target (has_error finding) task started_own)
 
-  pub finish_goes : IsGoing g at (record mid { made = made }) later shown
+  pub finish_goes : IsGoing g at (record mid { made = made }) (told ++ finish ∷ settles.published.own) later shown
   finish_goes = record {
     of_setting = going.of_setting;
     stage = with_checked going.stage finding;
@@ -182,21 +168,18 @@ module _ (at : Setting) (is : IsSetting at) (g : Given) (old mid : Going) (job :
     tallied =
         subst (AreTallied g.documents (with_checked going.stage finding)) (sym settles.tallies)
         (tallied_settled g.documents going.stage old.tallies.items going.tallied going.stage.taken finding settles.place settles.tally
-        (omega (arith, sized, slice_get_within at.documents.now settles.place document settles.there))
+        (omega (arith, sized, slice_get_within at.documents settles.place document settles.there))
         (subst (λ (ds : List BuildDocument). slice_get ds settles.place ≡ Some document) (sym going.of_setting.documents) settles.there)
         (subst (λ (ds : List BuildDocument). (k : ℕ) (d : BuildDocument) → slice_get ds k ≡ Some d → d.pair ≡ job.pair → k ≡ settles.place) (sym going.of_setting.documents)
         (one_document at is settles.place document settles.there))
         runs.unfinished
         (subst (λ b. IsCount b fact.checked.list.items settles.tally) (sym (begun_has going.stage job.pair (contains_at going.stage.begun runs.before job.pair runs.there))) settles.counted));
     started =
-        subst (λ (js : List Job). All (HasToldStart g (map outgoing_said mid.messages.items)) js) (sym jobs_same)
-        (subst (λ (ms : List Said). All (HasToldStart g ms) old.jobs.items) (sym messages_are)
-        (λ k d h. Contains-append_left before (finish ∷ published_here.own) _ (All-tail (HasToldStart g before) job old.jobs.items going.started k d h)));
+        subst (λ (js : List Job). All (HasToldStart g (told ++ finish ∷ settles.published.own)) js) (sym jobs_same)
+        (λ k d h. Contains-append_left told (finish ∷ settles.published.own) _ (All-tail (HasToldStart g told) job old.jobs.items going.started k d h));
     checked =
-        subst (All (λ (it : Made). HasChecked (told_by g (map outgoing_said mid.messages.items)) (build_document at.workspace.now it.pair).key)) (sym made_more)
-        (All-push (λ (it : Made). HasChecked (told_by g (map outgoing_said mid.messages.items)) (build_document at.workspace.now it.pair).key) old.made.items (record { pair = job.pair; fact = fact })
-        (subst (λ (ms : List Said). All (λ (it : Made). HasChecked (told_by g ms) (build_document at.workspace.now it.pair).key) old.made.items) (sym messages_are)
-        (λ k d h. checked_still g before (finish ∷ published_here.own) _ (going.checked k d h))) checked_own);
+        subst (All (λ (it : Made). HasChecked (told_by g (told ++ finish ∷ settles.published.own)) (build_document at.workspace.value it.pair).key)) (sym made_more)
+        (All-push (λ (it : Made). HasChecked (told_by g (told ++ finish ∷ settles.published.own)) (build_document at.workspace.value it.pair).key) old.made.items (record { pair = job.pair; fact = fact })
+        (λ k d h. checked_still g told (finish ∷ settles.published.own) _ (going.checked k d h)) checked_own);
     numbers = settles.numbers (λ acyclic. kept_view keys (world_of old.checks) job.pair fact kept_here is_fact acyclic) going.numbers;
-    remembers = remembers_on keys later settles.more at.workspace.now g.earlier at.cache.now going.remembers;
   }

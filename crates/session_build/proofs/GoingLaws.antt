@@ -1,7 +1,7 @@
 -- How a build goes on, by what is kept of it: a document whose check is kept is settled, or a check of it starts.
 use Rattle.std.proofs.Common.{◌≡◌, ◌≢◌, ◌++◌, ℕ, List, [], ◌∷◌, length, get_or, map, Some, option_map, ap, sym, subst, ◌∙◌, refl, arith}
 use Rattle.std.specs.declared.alloc.Global.{Global}
-use Rattle.std.specs.declared.collections.VecDeque.{VecDeque}
+use Rattle.std.specs.Prelude.{Vec}
 use Rattle.std.specs.List.{All, AllPairs, Contains, slice_get}
 use Rattle.std.proofs.lemmas.List.{map-append}
 use Rattle.std.proofs.lemmas.Option.{slice_get-map}
@@ -20,27 +20,22 @@ use Rattle.session_law.specs.History.{IsTaskOf, world_in}
 use Rattle.session_law.specs.declared.BuildDocument.{BuildDocument}
 use Rattle.session_law.proofs.ListLaws.{contains_at, contains_map, one_place}
 use Rattle.session_law.proofs.StageLaws.{stage_sound}
-use Rattle.session_build.specs.Going.{IsGoing, IsGoingWith}
-use Rattle.session_build.specs.Outgoing.{outgoing_said}
+use Rattle.session_build.specs.Going.{HasToldStart, IsGoing, IsGoingWith, TakesOut, all_running, pairs_made, running_of}
 use Rattle.session_build.specs.Setting.{IsNumberOf, IsSetting, IsSettingOf}
-use Rattle.session_build.specs.Stages.{Agrees, IsFirstIn, SameMembers}
+use Rattle.session_build.specs.Stages.{Agrees, AreBegun, IsFirstIn, Running, SameMembers}
 use Rattle.session_build.specs.declared.going.Going.{Going}
 use Rattle.session_build.specs.declared.going.Job.{Job}
-use Rattle.session_build.specs.declared.outgoing.Outgoing.{Outgoing}
 use Rattle.session_build.specs.declared.setting.Setting.{Setting}
 use Rattle.session_build.proofs.CourseSteps.{apart_settled}
 use Rattle.session_build.proofs.DocumentLaws.{distinct_documents}
 use Rattle.session_build.proofs.Publications as published
 use Rattle.session_build.proofs.SettingLaws.{pair_of}
-use Rattle.session_build.proofs.StageLaws.{next_here}
+use Rattle.session_build.proofs.Moved.{all_by, map_around, moved_back}
+use Rattle.session_build.proofs.StageLaws.{begun_moved, next_here}
 use Rattle.target_graph.specs.Faults.{IsRepeat}
 use Rattle.target_graph.specs.Workspace.{Space, id_of, pairs_of}
 use Rattle.target_graph.specs.declared.target.Target.{Target}
 use Rattle.target_graph.specs.declared.target.Pair.{Pair}
-
-pub said_push : (old new : List Outgoing) (m : Outgoing) (s : Said) → new ≡ old ++ m ∷ [] → outgoing_said m ≡ s → map outgoing_said new ≡ map outgoing_said old ++ s ∷ []
-said_push old new m s is said =
-    ap (map outgoing_said) is ∙ (map-append outgoing_said old (m ∷ []) ∙ ap (λ (x : Said). map outgoing_said old ++ x ∷ []) said)
 
 -- ---- what is read of the checks
 
@@ -61,34 +56,34 @@ agrees_same g s w w' m m' t t' e e' world modules taken settled agrees = record 
 -- ---- the documents
 
 module _ (at : Setting) (is : IsSetting at) where
-  documents_distinct : AllPairs ◌≢◌ (map (λ (d : BuildDocument). d.key) at.documents.now)
+  documents_distinct : AllPairs ◌≢◌ (map (λ (d : BuildDocument). d.key) at.documents)
   documents_distinct =
       subst (λ (ds : List BuildDocument). AllPairs ◌≢◌ (map (λ (d : BuildDocument). d.key) ds)) (sym is.are)
-      (distinct_documents at.workspace.now at.targets.keys is.apart at.pairs.keys is.rising is.each)
+      (distinct_documents at.workspace.value at.targets.keys is.apart at.pairs.keys is.rising is.each)
 
-  pub pairs_distinct : AllPairs ◌≢◌ (map (λ (d : BuildDocument). d.pair) at.documents.now)
+  pub pairs_distinct : AllPairs ◌≢◌ (map (λ (d : BuildDocument). d.pair) at.documents)
   pairs_distinct = subst (λ ps. AllPairs ◌≢◌ ps) is.pairs (λ i j d h k same. (let less = is.rising i j d h k in omega (arith, less, same)))
 
-  pub one_document : (place : ℕ) (document : BuildDocument) → slice_get at.documents.now place ≡ Some document
-      → (k : ℕ) (d : BuildDocument) → slice_get at.documents.now k ≡ Some d → d.pair ≡ document.pair → k ≡ place
+  pub one_document : (place : ℕ) (document : BuildDocument) → slice_get at.documents place ≡ Some document
+      → (k : ℕ) (d : BuildDocument) → slice_get at.documents k ≡ Some d → d.pair ≡ document.pair → k ≡ place
   one_document place document there k d here same =
-      one_place (map (λ (x : BuildDocument). x.pair) at.documents.now) document.pair k place pairs_distinct
-      (slice_get-map (λ (x : BuildDocument). x.pair) at.documents.now k ∙ (ap (option_map (λ (x : BuildDocument). x.pair)) here ∙ ap (λ p. Some p) same))
-      (slice_get-map (λ (x : BuildDocument). x.pair) at.documents.now place ∙ ap (option_map (λ (x : BuildDocument). x.pair)) there)
+      one_place (map (λ (x : BuildDocument). x.pair) at.documents) document.pair k place pairs_distinct
+      (slice_get-map (λ (x : BuildDocument). x.pair) at.documents k ∙ (ap (option_map (λ (x : BuildDocument). x.pair)) here ∙ ap (λ p. Some p) same))
+      (slice_get-map (λ (x : BuildDocument). x.pair) at.documents place ∙ ap (option_map (λ (x : BuildDocument). x.pair)) there)
 
-  pub once_in : (v : World) → v.targets ≡ at.workspace.now.targets → IsApart v
+  pub once_in : (v : World) → v.targets ≡ at.workspace.value.targets → IsApart v
   once_in v same = subst (λ (ts : List Target). (t q : ℕ) → ¬ (IsRepeat ts t q)) (sym same) is.once
 
 -- ---- one step
 
 -- A document of the build that is next, as a course sees it.
 pub record IsTakenUp (g : Given) (at : Setting) (s : Stage) (pair : ℕ) : Type 0 where
-  pub next : IsNext g s (build_document at.workspace.now pair)
+  pub next : IsNext g s (build_document at.workspace.value pair)
   pub unbegun : ¬ (Contains s.begun pair)
   pub unsettled : ¬ (Contains (pairs_in s.settled) pair)
-  pub apart : All (λ (f : Finding). published.IsApart (build_document at.workspace.now pair) f.document) s.settled
+  pub apart : All (λ (f : Finding). published.IsApart (build_document at.workspace.value pair) f.document) s.settled
   pub target : Pair
-  pub there : slice_get (pairs_of at.workspace.now.targets) pair ≡ Some target
+  pub there : slice_get (pairs_of at.workspace.value.targets) pair ≡ Some target
 
 -- a module was taken
 pub record Came (old new : Checks) (pair : ℕ) : Type 0 where
@@ -99,31 +94,31 @@ pub record Came (old new : Checks) (pair : ℕ) : Type 0 where
   pub taken : taken_of new ≡ taken_of old ++ pair ∷ []
   pub numbers : (keys : List (List ℕ)) → AreNumbersOf keys old → AreNumbersOf keys new
 
-module _ (at : Setting) (is : IsSetting at) (g : Given) (old : Going) (jobs : List Job) (keys : List (List ℕ)) (table : Table) (going : IsGoingWith g at old jobs keys table) where
-  pub space_is : g.active.build.space ≡ at.workspace.now
+module _ (at : Setting) (is : IsSetting at) (g : Given) (old : Going) (jobs : List Job) (told : List Said) (keys : List (List ℕ)) (table : Table) (going : IsGoingWith g at old jobs told keys table) where
+  pub space_is : g.active.build.space ≡ at.workspace.value
   space_is = going.of_setting.space
 
-  pub world_targets : (world_in g.active).targets ≡ at.workspace.now.targets
+  pub world_targets : (world_in g.active).targets ≡ at.workspace.value.targets
   world_targets = ap (λ (x : Space). x.targets) space_is
 
-  pub document_there : (place pair : ℕ) → slice_get at.documents.now place ≡ Some (build_document at.workspace.now pair) → Contains g.documents (build_document at.workspace.now pair)
+  pub document_there : (place pair : ℕ) → slice_get at.documents place ≡ Some (build_document at.workspace.value pair) → Contains g.documents (build_document at.workspace.value pair)
   document_there place pair here =
-      subst (λ (ds : List BuildDocument). Contains ds (build_document at.workspace.now pair)) (sym going.of_setting.documents)
-      (contains_at at.documents.now place (build_document at.workspace.now pair) here)
+      subst (λ (ds : List BuildDocument). Contains ds (build_document at.workspace.value pair)) (sym going.of_setting.documents)
+      (contains_at at.documents place (build_document at.workspace.value pair) here)
 
   pub keys_distinct : AllPairs ◌≢◌ (map (λ (d : BuildDocument). d.key) g.documents)
   keys_distinct = subst (λ (ds : List BuildDocument). AllPairs ◌≢◌ (map (λ (d : BuildDocument). d.key) ds)) (sym going.of_setting.documents) (documents_distinct at is)
 
-  pub taken_up : (place pair : ℕ) → slice_get at.documents.now place ≡ Some (build_document at.workspace.now pair) → stand.IsNext old.checks pair → IsTakenUp g at going.stage pair
+  pub taken_up : (place pair : ℕ) → slice_get at.documents place ≡ Some (build_document at.workspace.value pair) → stand.IsNext old.checks pair → IsTakenUp g at going.stage pair
   taken_up place pair here first =
       let s = going.stage in
-      let document = build_document at.workspace.now pair in
+      let document = build_document at.workspace.value pair in
       let there = document_there place pair here in
       let next : IsNext g s document =
       next_here g s (world_of old.checks) (modules_of old.checks) (taken_of old.checks) (settled_of old.checks) going.agrees document there (first_in old.checks pair first) in
       let sound = stage_sound going.on.course in
       let unsettled : ¬ (Contains (pairs_in s.settled) pair) = (λ c. next.ready.is_new (sound.settled_taken pair c)) in
-      let own = pair_of at is pair (contains_map (λ (d : BuildDocument). d.pair) at.documents.now document (contains_at at.documents.now place document here)) in
+      let own = pair_of at is pair (contains_map (λ (d : BuildDocument). d.pair) at.documents document (contains_at at.documents place document here)) in
       record {
         next = next;
         unbegun = λ c. next.ready.is_new (sound.begun_taken pair c);
@@ -134,7 +129,7 @@ module _ (at : Setting) (is : IsSetting at) (g : Given) (old : Going) (jobs : Li
       }
 
 -- the number of a target, as a course has it
-pub task_of : (at : Setting) (g : Given) (pair number : ℕ) → IsSettingOf at g → IsNumberOf at pair number → IsTaskOf g.active (build_document at.workspace.now pair).key.target number
+pub task_of : (at : Setting) (g : Given) (pair number : ℕ) → IsSettingOf at g → IsNumberOf at pair number → IsTaskOf g.active (build_document at.workspace.value pair).key.target number
 task_of at g pair number of_setting is = record {
   closure = g.closure;
   closed = of_setting.are.closed;
@@ -151,9 +146,9 @@ slice_get_last (y ∷ xs) x = slice_get_last xs x
 
 -- ---- nothing is taken
 
-module _ (at : Setting) (g : Given) (old : Going) (c : Checks) (keys : List (List ℕ)) (table : Table) (world : world_of c ≡ world_of old.checks) (modules : modules_of c ≡ modules_of old.checks)
-    (taken : taken_of c ≡ taken_of old.checks) (settled : settled_of c ≡ settled_of old.checks) (numbers : AreNumbersOf keys old.checks → AreNumbersOf keys c) (going : IsGoing g at old keys table) where
-  pub idle_goes : IsGoing g at (record old { checks = c }) keys table
+module _ (at : Setting) (g : Given) (old : Going) (c : Checks) (told : List Said) (keys : List (List ℕ)) (table : Table) (world : world_of c ≡ world_of old.checks) (modules : modules_of c ≡ modules_of old.checks)
+    (taken : taken_of c ≡ taken_of old.checks) (settled : settled_of c ≡ settled_of old.checks) (numbers : AreNumbersOf keys old.checks → AreNumbersOf keys c) (going : IsGoing g at old told keys table) where
+  pub idle_goes : IsGoing g at (record old { checks = c }) told keys table
   idle_goes = record {
     of_setting = going.of_setting;
     stage = going.stage;
@@ -169,7 +164,6 @@ module _ (at : Setting) (g : Given) (old : Going) (c : Checks) (keys : List (Lis
     started = going.started;
     checked = going.checked;
     numbers = numbers going.numbers;
-    remembers = going.remembers;
   }
 
 -- where none can be taken, and nothing changed, none can be
@@ -185,20 +179,30 @@ none_still old c world modules taken settled none p can =
 
 -- ---- the jobs are spoken of apart from what keeps them
 
-pub jobs_put : (g : Given) (at : Setting) (old : Going) (jobs : List Job) (queue : VecDeque Job Global) (keys : List (List ℕ)) (table : Table) → IsGoingWith g at old jobs keys table
-    → IsGoingWith g at (record old { jobs = queue }) jobs keys table
-jobs_put g at old jobs queue keys table going = record {
-  of_setting = going.of_setting;
-  stage = going.stage;
-  on = going.on;
-  agrees = going.agrees;
-  count = going.count;
-  begun = going.begun;
-  numbered = going.numbered;
-  made = going.made;
-  tallied = going.tallied;
-  started = going.started;
-  checked = going.checked;
-  numbers = going.numbers;
-  remembers = going.remembers;
-}
+-- one of them is taken out, and is the first of them then
+pub job_first : (g : Given) (at : Setting) (old : Going) (queue : Vec Job Global) (job : Job) (told : List Said) (keys : List (List ℕ)) (table : Table)
+    → TakesOut old.jobs.items queue.items job → IsGoing g at old told keys table → IsGoingWith g at (record old { jobs = queue }) (job ∷ queue.items) told keys table
+job_first g at old queue job told keys table takes going =
+    let front = takes.front in
+    let back = takes.back in
+    let within : (it : Job) → Contains (job ∷ queue.items) it → Contains old.jobs.items it =
+    (λ it there. subst (λ (js : List Job). Contains js it) (sym takes.before) (moved_back front back job it (subst (λ (js : List Job). Contains (job ∷ js) it) takes.after there))) in
+    record {
+      of_setting = going.of_setting;
+      stage = going.stage;
+      on = going.on;
+      agrees = going.agrees;
+      count = going.count;
+      begun =
+          subst (λ (js : List Job). AreBegun g going.stage (all_running (job ∷ js)) (pairs_made old.made.items)) (sym takes.after)
+          (subst (λ (rs : List Running). AreBegun g going.stage (running_of job ∷ rs) (pairs_made old.made.items)) (sym (map-append running_of front back))
+          (begun_moved g going.stage (all_running front) (all_running back) (running_of job) (pairs_made old.made.items)
+          (subst (λ (rs : List Running). AreBegun g going.stage rs (pairs_made old.made.items)) (map_around running_of front back job)
+          (subst (λ (js : List Job). AreBegun g going.stage (all_running js) (pairs_made old.made.items)) takes.before going.begun))));
+      numbered = all_by (λ (j : Job). AreNumbered keys (world_of old.checks) j.pair j.imports.items) old.jobs.items (job ∷ queue.items) within going.numbered;
+      made = going.made;
+      tallied = going.tallied;
+      started = all_by (HasToldStart g told) old.jobs.items (job ∷ queue.items) within going.started;
+      checked = going.checked;
+      numbers = going.numbers;
+    }

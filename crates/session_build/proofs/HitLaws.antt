@@ -1,7 +1,6 @@
 -- A document whose check is kept: it is settled at once.
-use Rattle.std.proofs.Common.{◌≡◌, ◌++◌, ℕ, List, [], ◌∷◌, length, get_or, map, false, Option, Some, ap, sym, subst, ◌∙◌, refl, arith}
+use Rattle.std.proofs.Common.{◌≡◌, ◌++◌, ℕ, List, [], ◌∷◌, length, get_or, false, Option, Some, ap, sym, subst, ◌∙◌, refl, arith}
 use Rattle.std.specs.Prelude.{Vec}
-use Rattle.std.specs.declared.collections.VecDeque.{VecDeque}
 use Rattle.std.specs.declared.alloc.Global.{Global}
 use Rattle.std.specs.List.{All, slice_get}
 use Rattle.std.proofs.lemmas.List.Elements.{Contains-append_left}
@@ -18,6 +17,7 @@ use Rattle.check_cache.specs.Facts.{FactTree, IsFact}
 use Rattle.check_cache.specs.Places.{Chosen}
 use Rattle.check_cache.specs.Wanted.{IsOf}
 use Rattle.check_cache.specs.Pairs.{key_of}
+use Rattle.check_cache.specs.declared.cache.Cache.{Cache}
 use Rattle.check_cache.specs.Places.{first_at, other_at}
 use Rattle.build_rules.specs.World.{held_in}
 use Rattle.rpc_peer.specs.Said.{Said}
@@ -27,8 +27,8 @@ use Rattle.session_law.specs.History.{HasChecked, world_in}
 use Rattle.session_law.specs.declared.BuildDocument.{BuildDocument}
 use Rattle.session_law.proofs.HistoryLaws.{checked_still}
 use Rattle.session_build.specs.Going.{HasToldStart, IsGoing, SettlesBy, all_running, pairs_made, told_by}
-use Rattle.session_build.specs.Outgoing.{outgoing_said}
 use Rattle.session_build.specs.Publishing.{IsPublishedOne}
+use Rattle.session_build.specs.Remembering.{RemembersChecks}
 use Rattle.session_build.specs.Setting.{IsSetting}
 use Rattle.session_build.specs.Stages.{AreBegun, IsOnCourse}
 use Rattle.session_build.specs.Tallies.{AreTallied, IsCount}
@@ -36,70 +36,74 @@ use Rattle.session_build.specs.declared.going.Going.{Going}
 use Rattle.session_build.specs.declared.going.Job.{Job}
 use Rattle.session_build.specs.declared.going.Made.{Made}
 use Rattle.session_build.specs.declared.setting.Setting.{Setting}
-use Rattle.session_build.proofs.CourseSteps.{on_known}
-use Rattle.session_build.proofs.RememberLaws.{IsMade, found_made, hit_kept, hit_known, remembers_on}
+use Rattle.session_build.proofs.CourseSteps.{on_known, published_behind}
+use Rattle.session_build.proofs.RememberLaws.{IsMade, found_made, hit_kept, hit_known}
 use Rattle.session_build.proofs.StageLaws.{adds_push, agrees_known, begun_known}
 use Rattle.session_build.proofs.TallyLaws.{begun_not, tallied_settled}
 use Rattle.target_graph.specs.Workspace.{Space, pairs_of}
 use Rattle.target_graph.specs.declared.target.Target.{Target}
-use Rattle.session_build.proofs.GoingLaws.{Came, IsTakenUp, agrees_same, once_in, one_document, taken_up}
+use Rattle.session_build.proofs.GoingLaws.{Came, IsTakenUp, agrees_same, keys_distinct, once_in, one_document, taken_up}
 
-module _ (at : Setting) (is : IsSetting at) (g : Given) (old new : Going) (c : Checks) (pair : ℕ) (keys later : List (List ℕ)) (table shown : Table) (came : Came old.checks c pair)
+module _ (at : Setting) (is : IsSetting at) (cache : Cache) (g : Given) (old new : Going) (c : Checks) (pair : ℕ) (told before after : List Said) (keys later : List (List ℕ)) (table shown : Table) (came : Came old.checks c pair)
     (apart : AreApart keys) (imports : List (List ℕ × ℕ)) (numbered : (ks : List (List ℕ)) → AreNumbersOf ks c → AreNumbered ks (world_of c) pair imports)
-    (fact : FactTree) (is_fact : IsFact fact) (found : IsFound at.cache.now (world_of c) pair imports fact)
-    (sized : length old.tallies.items ≡ length at.documents.now)
-    (settles : SettlesBy at (record old { checks = c }) new pair false fact keys later table shown) (going : IsGoing g at old keys table) where
+    (fact : FactTree) (is_fact : IsFact fact) (found : IsFound cache (world_of c) pair imports fact)
+    (sized : length old.tallies.items ≡ length at.documents)
+    (settles : SettlesBy at (record old { checks = c }) new pair false fact keys later table shown before after)
+    (remembers : RemembersChecks at.workspace.value g.earlier cache keys) (going : IsGoing g at old told keys table) where
   abbrev document : BuildDocument
-  document = build_document at.workspace.now pair
+  document = build_document at.workspace.value pair
 
   abbrev finding : Finding
-  finding = record { document = build_document at.workspace.now pair; list = fact.checked.list.items }
+  finding = record { document = build_document at.workspace.value pair; list = fact.checked.list.items }
 
   world_here : world_of c ≡ world_in g.active
   world_here = came.world_same ∙ going.agrees.world_is
 
   up : IsTakenUp g at going.stage pair
-  up = taken_up at is g old old.jobs.items keys table going settles.place pair settles.there came.next
+  up = taken_up at is g old old.jobs.items told keys table going settles.place pair settles.there came.next
 
   numbered_here : AreNumbered keys (world_in g.active) pair imports
   numbered_here = subst (λ w. AreNumbered keys w pair imports) world_here (numbered keys (came.numbers keys going.numbers))
 
-  own_space : g.active.build.space ≡ at.workspace.now
+  own_space : g.active.build.space ≡ at.workspace.value
   own_space = going.of_setting.space
 
-  targets_are : (world_in g.active).targets ≡ at.workspace.now.targets
+  targets_are : (world_in g.active).targets ≡ at.workspace.value.targets
   targets_are = ap (λ (x : Space). x.targets) own_space
 
-  chosen : Chosen (IsOf (held_in (world_in g.active) pair) imports) (first_at at.cache.now (key_of up.target)) (other_at at.cache.now (key_of up.target)) fact
+  chosen : Chosen (IsOf (held_in (world_in g.active) pair) imports) (first_at cache (key_of up.target)) (other_at cache (key_of up.target)) fact
   chosen =
-      subst (λ w. Chosen (IsOf (held_in w pair) imports) (first_at at.cache.now (key_of up.target)) (other_at at.cache.now (key_of up.target)) fact) world_here
+      subst (λ w. Chosen (IsOf (held_in w pair) imports) (first_at cache (key_of up.target)) (other_at cache (key_of up.target)) fact) world_here
       (found up.target (subst (λ (ts : List Target). slice_get (pairs_of ts) pair ≡ Some up.target) (sym (ap (λ (w : World). w.targets) world_here ∙ targets_are)) up.there))
 
   made : IsOf (held_in (world_in g.active) pair) imports fact × IsMade keys g.earlier pair document.key fact
-  made = found_made keys g.earlier at.workspace.now at.cache.now going.remembers g.active own_space pair up.target up.there imports fact chosen
+  made = found_made keys g.earlier at.workspace.value cache remembers g.active own_space pair up.target up.there imports fact chosen
 
   kept : IsKept keys (world_in g.active) pair fact
-  kept = hit_kept keys g.earlier at.workspace.now at.cache.now going.remembers g.active own_space pair up.target up.there imports numbered_here fact made.0 made.1
+  kept = hit_kept keys g.earlier at.workspace.value cache remembers g.active own_space pair up.target up.there imports numbered_here fact made.0 made.1
 
-  on : IsOnCourse g (with_known going.stage finding) (map outgoing_said new.messages.items) shown
+  one : IsPublishedOne table shown document g.active.build.origin fact.checked.list.items told (told ++ settles.published.own) settles.failed
+  one =
+      subst (λ (o : Option (List ℕ)). IsPublishedOne table shown document o fact.checked.list.items told (told ++ settles.published.own) settles.failed)
+      (sym going.of_setting.origin) (published_behind table shown document at.origin.value fact.checked.list.items before after settles.failed told settles.published)
+
+  on : IsOnCourse g (with_known going.stage finding) (told ++ settles.published.own) shown
   on =
-      on_known g going.stage (map outgoing_said old.messages.items) table finding shown (map outgoing_said new.messages.items) settles.failed going.on up.next
-      (hit_known keys g.earlier at.workspace.now at.cache.now going.remembers g.active own_space pair up.target up.there imports numbered_here fact made.0 made.1)
+      on_known g going.stage told table finding shown (told ++ settles.published.own) settles.failed (keys_distinct at is g old old.jobs.items told keys table going) going.on up.next
+      (hit_known keys g.earlier at.workspace.value cache remembers g.active own_space pair up.target up.there imports numbered_here fact made.0 made.1)
       (kept_list keys (world_in g.active) pair fact kept is_fact (once_in at is (world_in g.active) targets_are))
-      up.apart
-      (subst (λ (o : Option (List ℕ)). IsPublishedOne table shown document o fact.checked.list.items (map outgoing_said old.messages.items) (map outgoing_said new.messages.items) settles.failed)
-      (sym going.of_setting.origin) settles.published)
+      up.apart one
 
   world_same : world_of new.checks ≡ world_of old.checks
   world_same = settles.world_same ∙ came.world_same
 
   jobs_same : new.jobs.items ≡ old.jobs.items
-  jobs_same = ap (λ (v : VecDeque Job Global). v.items) settles.jobs
+  jobs_same = ap (λ (v : Vec Job Global). v.items) settles.jobs
 
   made_same : new.made.items ≡ old.made.items
   made_same = ap (λ (v : Vec Made Global). v.items) settles.made
 
-  pub hit_goes : IsGoing g at new later shown
+  pub hit_goes : IsGoing g at new (told ++ settles.published.own) later shown
   hit_goes = record {
     of_setting = going.of_setting;
     stage = with_known going.stage finding;
@@ -127,23 +131,20 @@ module _ (at : Setting) (is : IsSetting at) (g : Given) (old new : Going) (c : C
     tallied =
         subst (AreTallied g.documents (with_known going.stage finding)) (sym settles.tallies)
         (tallied_settled g.documents going.stage old.tallies.items going.tallied (going.stage.taken ++ pair ∷ []) finding settles.place settles.tally
-        (omega (arith, sized, slice_get_within at.documents.now settles.place document settles.there))
+        (omega (arith, sized, slice_get_within at.documents settles.place document settles.there))
         (subst (λ (ds : List BuildDocument). slice_get ds settles.place ≡ Some document) (sym going.of_setting.documents) settles.there)
         (subst (λ (ds : List BuildDocument). (k : ℕ) (d : BuildDocument) → slice_get ds k ≡ Some d → d.pair ≡ pair → k ≡ settles.place) (sym going.of_setting.documents)
         (one_document at is settles.place document settles.there))
         up.unsettled
         (subst (λ b. IsCount b fact.checked.list.items settles.tally) (sym (begun_not going.stage pair up.unbegun)) settles.counted));
     started =
-        subst (λ (js : List Job). All (HasToldStart g (map outgoing_said new.messages.items)) js) (sym jobs_same)
-        (subst (λ (ms : List Said). All (HasToldStart g ms) old.jobs.items) (sym settles.published.messages)
-        (λ k d h. Contains-append_left (map outgoing_said old.messages.items) settles.published.own _ (going.started k d h)));
+        subst (λ (js : List Job). All (HasToldStart g (told ++ settles.published.own)) js) (sym jobs_same)
+        (λ k d h. Contains-append_left told settles.published.own _ (going.started k d h));
     checked =
-        subst (λ (ms : List Made). All (λ (it : Made). HasChecked (told_by g (map outgoing_said new.messages.items)) (build_document at.workspace.now it.pair).key) ms) (sym made_same)
-        (subst (λ (ms : List Said). All (λ (it : Made). HasChecked (told_by g ms) (build_document at.workspace.now it.pair).key) old.made.items) (sym settles.published.messages)
-        (λ k d h. checked_still g (map outgoing_said old.messages.items) settles.published.own _ (going.checked k d h)));
+        subst (λ (ms : List Made). All (λ (it : Made). HasChecked (told_by g (told ++ settles.published.own)) (build_document at.workspace.value it.pair).key) ms) (sym made_same)
+        (λ k d h. checked_still g told settles.published.own _ (going.checked k d h));
     numbers =
         settles.numbers
         (λ acyclic. kept_view keys (world_of c) pair fact (subst (λ w. IsKept keys w pair fact) (sym world_here) kept) is_fact acyclic)
         (came.numbers keys going.numbers);
-    remembers = remembers_on keys later settles.more at.workspace.now g.earlier at.cache.now going.remembers;
   }

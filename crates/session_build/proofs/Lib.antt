@@ -23,3 +23,14 @@ pub mod SoundLaws
 pub mod TellLaws
 pub mod RisingLaws
 pub mod BeginLaws
+pub mod Moved
+pub mod JobLaws
+pub mod GoesLaws
+pub mod CancelSteps
+pub mod CancellingLaws
+pub mod RestLaws
+pub mod PausedLaws
+pub mod BareSteps
+pub mod MakingLaws
+pub mod LateLaws
+pub mod KeepingLaws

@@ -1,8 +1,9 @@
 -- What lists contain, and lists without repeats.
-use Rattle.std.proofs.Common.{◌≡◌, ◌≢◌, ◌⊎◌, inl, inr, ◌<◌, ◌≤◌, ◌++◌, ℕ, zero, suc, List, [], ◌∷◌, length, get_or, map, Some, refl, sym, ap, ◌∙◌, arith}
-use Rattle.std.specs.List.{AllPairs, Contains, slice_get}
+use Rattle.std.proofs.Common.{◌≡◌, ◌≢◌, ◌⊎◌, inl, inr, ◌<◌, ◌≤◌, ◌+◌, ◌++◌, ℕ, zero, suc, List, [], ◌∷◌, length, get_or, map, take, drop, Some, refl, sym, ap, ◌∙◌, arith, length-drop}
+use Rattle.std.specs.List.{AllPairs, Contains, remove, slice_get}
 use Rattle.std.proofs.lemmas.Bool.{cases_lt}
-use Rattle.std.proofs.lemmas.List.{get_or-map, get_or_default, length-map}
+use Rattle.std.proofs.lemmas.List.{get_or-drop, get_or-map, get_or-take, get_or_default, length-map, length-take}
+use Rattle.std.proofs.lemmas.List.Elements.{Contains-append_cases}
 use Rattle.std.proofs.lemmas.List.Quantifiers.{all_pairs_push}
 use Rattle.std.proofs.lemmas.Option.{get_or_from_slice_get, slice_get_within}
 
@@ -58,3 +59,23 @@ distinct_rest x xs distinct i j d h k = distinct (suc i) (suc j) d (omega arith)
 
 pub distinct_first : {X : Type 0} (x : X) (xs : List X) → AllPairs ◌≢◌ (x ∷ xs) → ¬ (Contains xs x)
 distinct_first x xs distinct there = distinct 0 (suc there.0) x (omega arith) (omega (arith, there.1)) (sym there.2)
+
+-- ---- lists from which something is taken out
+
+contains_take : {X : Type 0} (i : ℕ) (xs : List X) (y : X) → Contains (take i xs) y → Contains xs y
+contains_take i xs y there =
+    let size = length-take i xs in
+    (there.0, omega (arith, there.1, size), sym (get_or-take i xs there.0 y (omega (arith, there.1, size))) ∙ there.2)
+
+contains_drop : {X : Type 0} (i : ℕ) (xs : List X) (y : X) → Contains (drop i xs) y → Contains xs y
+contains_drop i xs y there =
+    let size = length-drop i xs in
+    (i + there.0, omega (arith, there.1, size), sym (get_or-drop i xs there.0 y) ∙ there.2)
+
+-- what is left was there
+pub contains_remove : {X : Type 0} (i : ℕ) (xs : List X) (y : X) → Contains (remove xs i) y → Contains xs y
+contains_remove {X} i xs y there = by (Contains-append_cases (take i xs) (drop (suc i) xs) y there)
+  where
+    by : Contains (take i xs) y ⊎ Contains (drop (suc i) xs) y → Contains xs y
+    by (inl before) = contains_take i xs y before
+    by (inr behind) = contains_drop (suc i) xs y behind

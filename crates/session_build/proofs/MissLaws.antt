@@ -1,5 +1,5 @@
 -- A document whose check isn't kept: a check of it starts.
-use Rattle.std.proofs.Common.{◌≡◌, ◌++◌, ℕ, suc, List, [], ◌∷◌, length, get_or, map, Some, ap, sym, subst, ◌∙◌, arith}
+use Rattle.std.proofs.Common.{◌≡◌, ◌++◌, ℕ, suc, List, [], ◌∷◌, length, get_or, Some, ap, sym, subst, ◌∙◌, arith}
 use Rattle.std.specs.Prelude.{Vec}
 use Rattle.std.specs.declared.alloc.Global.{Global}
 use Rattle.std.specs.List.{All, Contains, slice_get}
@@ -15,6 +15,7 @@ use Rattle.build_rules.specs.World.{World}
 use Rattle.check_cache.specs.Places.{Lacks}
 use Rattle.check_cache.specs.Wanted.{IsOf}
 use Rattle.check_cache.specs.Pairs.{key_of}
+use Rattle.check_cache.specs.declared.cache.Cache.{Cache}
 use Rattle.check_cache.specs.Places.{first_at}
 use Rattle.build_rules.specs.World.{held_in}
 use Rattle.rpc_peer.specs.Said.{Said}
@@ -27,7 +28,7 @@ use Rattle.session_law.specs.declared.BuildDocument.{BuildDocument}
 use Rattle.session_law.proofs.HistoryLaws.{checked_still}
 use Rattle.session_law.proofs.StageLaws.{stage_sound}
 use Rattle.session_build.specs.Going.{Begins, HasToldStart, IsGoing, all_running, pairs_made, running_of, told_by}
-use Rattle.session_build.specs.Outgoing.{outgoing_said}
+use Rattle.session_build.specs.Remembering.{RemembersChecks}
 use Rattle.session_build.specs.Setting.{IsSetting}
 use Rattle.session_build.specs.Stages.{AreBegun, IsOnCourse, IsRunning, Running}
 use Rattle.session_build.specs.Tallies.{AreTallied}
@@ -46,36 +47,37 @@ use Rattle.session_build.proofs.GoingLaws.{Came, IsTakenUp, agrees_same, once_in
 use Rattle.session_build.proofs.GoingLaws.{slice_get_last, task_of}
 use Rattle.std.proofs.lemmas.List.Elements.{Contains-push}
 
-module _ (at : Setting) (is : IsSetting at) (g : Given) (old new : Going) (c : Checks) (pair : ℕ) (keys : List (List ℕ)) (table : Table) (came : Came old.checks c pair)
+module _ (at : Setting) (is : IsSetting at) (cache : Cache) (g : Given) (old new : Going) (c : Checks) (pair : ℕ) (told before after : List Said) (keys : List (List ℕ)) (table : Table) (came : Came old.checks c pair)
     (apart : AreApart keys) (imports : List (List ℕ × ℕ)) (numbered : (ks : List (List ℕ)) → AreNumbersOf ks c → AreNumbered ks (world_of c) pair imports)
-    (lacked : IsLacked at.cache.now (world_of c) pair imports)
-    (begins : Begins at (record old { checks = c }) new pair imports) (going : IsGoing g at old keys table) where
+    (lacked : IsLacked cache (world_of c) pair imports)
+    (begins : Begins at (record old { checks = c }) new pair imports before after)
+    (remembers : RemembersChecks at.workspace.value g.earlier cache keys) (going : IsGoing g at old told keys table) where
   abbrev document : BuildDocument
-  document = build_document at.workspace.now pair
+  document = build_document at.workspace.value pair
 
   world_here : world_of c ≡ world_in g.active
   world_here = came.world_same ∙ going.agrees.world_is
 
   up : IsTakenUp g at going.stage pair
-  up = taken_up at is g old old.jobs.items keys table going begins.job.place pair begins.there came.next
+  up = taken_up at is g old old.jobs.items told keys table going begins.job.place pair begins.there came.next
 
   numbered_here : AreNumbered keys (world_in g.active) pair imports
   numbered_here = subst (λ w. AreNumbered keys w pair imports) world_here (numbered keys (came.numbers keys going.numbers))
 
-  own_space : g.active.build.space ≡ at.workspace.now
+  own_space : g.active.build.space ≡ at.workspace.value
   own_space = going.of_setting.space
 
-  targets_are : (world_in g.active).targets ≡ at.workspace.now.targets
+  targets_are : (world_in g.active).targets ≡ at.workspace.value.targets
   targets_are = ap (λ (x : Space). x.targets) own_space
 
-  lacks : Lacks (IsOf (held_in (world_in g.active) pair) imports) (first_at at.cache.now (key_of up.target))
+  lacks : Lacks (IsOf (held_in (world_in g.active) pair) imports) (first_at cache (key_of up.target))
   lacks =
-      subst (λ w. Lacks (IsOf (held_in w pair) imports) (first_at at.cache.now (key_of up.target))) world_here
+      subst (λ w. Lacks (IsOf (held_in w pair) imports) (first_at cache (key_of up.target))) world_here
       (lacked.first up.target (subst (λ (ts : List Target). slice_get (pairs_of ts) pair ≡ Some up.target) (sym (ap (λ (w : World). w.targets) world_here ∙ targets_are)) up.there))
 
   due : Due g.earlier g.active document
   due =
-      miss_due keys g.earlier at.workspace.now at.cache.now going.remembers g.active own_space pair up.target up.there is.apart
+      miss_due keys g.earlier at.workspace.value cache remembers g.active own_space pair up.target up.there is.apart
       (λ v same. once_in at is v same) apart imports numbered_here lacks
 
   number_is : begins.job.number ≡ suc (length going.stage.begun)
@@ -90,11 +92,14 @@ module _ (at : Setting) (is : IsSetting at) (g : Given) (old new : Going) (c : C
       ap (λ n. check_starts n begins.job.number begins.job.target document.key.document) (sym going.of_setting.number)
       ∙ ap (λ n. check_starts g.active.number n begins.job.target document.key.document) number_is
 
-  on : IsOnCourse g (with_begun going.stage document) (map outgoing_said new.messages.items) table
+  abbrev start : Said
+  start = check_starts at.number begins.job.number begins.job.target (build_document at.workspace.value pair).key.document
+
+  on : IsOnCourse g (with_begun going.stage document) (told ++ start ∷ []) table
   on =
       subst (λ (ms : List Said). IsOnCourse g (with_begun going.stage document) ms table)
-      (sym (begins.messages ∙ ap (λ (m : Said). map outgoing_said old.messages.items ++ m ∷ []) start_is))
-      (on_begun g going.stage (map outgoing_said old.messages.items) table document begins.job.target going.on up.next due task (subst IsFramed start_is begins.framed))
+      (sym (ap (λ (m : Said). told ++ m ∷ []) start_is))
+      (on_begun g going.stage told table document begins.job.target going.on up.next due task (subst IsFramed start_is begins.framed))
 
   world_same : world_of new.checks ≡ world_of old.checks
   world_same = ap world_of begins.checks ∙ came.world_same
@@ -122,14 +127,13 @@ module _ (at : Setting) (is : IsSetting at) (g : Given) (old new : Going) (c : C
   running_all : all_running new.jobs.items ≡ all_running old.jobs.items ++ running_of begins.job ∷ []
   running_all = ap all_running begins.jobs ∙ map-append running_of old.jobs.items (begins.job ∷ [])
 
-  told_own : HasToldStart g (map outgoing_said new.messages.items) begins.job
+  told_own : HasToldStart g (told ++ start ∷ []) begins.job
   told_own =
-      subst (λ (ms : List Said). Contains ms (check_starts g.active.number begins.job.number begins.job.target (build_document g.active.build.space begins.job.pair).key.document)) (sym begins.messages)
-      (subst (Contains (map outgoing_said old.messages.items ++ check_starts at.number begins.job.number begins.job.target document.key.document ∷ []))
+      subst (Contains (told ++ start ∷ []))
       (ap (λ n. check_starts n begins.job.number begins.job.target document.key.document) (sym going.of_setting.number)
       ∙ (ap (λ (s : Space). check_starts g.active.number begins.job.number begins.job.target (build_document s pair).key.document) (sym own_space)
       ∙ ap (λ q. check_starts g.active.number begins.job.number begins.job.target (build_document g.active.build.space q).key.document) (sym begins.pair_is)))
-      (Contains-push (map outgoing_said old.messages.items) (check_starts at.number begins.job.number begins.job.target document.key.document)))
+      (Contains-push told start)
 
   numbered_own : AreNumbered keys (world_of new.checks) begins.job.pair begins.job.imports.items
   numbered_own =
@@ -137,7 +141,7 @@ module _ (at : Setting) (is : IsSetting at) (g : Given) (old new : Going) (c : C
       (subst (λ q. AreNumbered keys (world_in g.active) q begins.job.imports.items) (sym begins.pair_is)
       (subst (AreNumbered keys (world_in g.active) pair) (sym begins.imports_are) numbered_here))
 
-  pub miss_goes : IsGoing g at new keys table
+  pub miss_goes : IsGoing g at new (told ++ start ∷ []) keys table
   miss_goes = record {
     of_setting = going.of_setting;
     stage = with_begun going.stage document;
@@ -165,14 +169,11 @@ module _ (at : Setting) (is : IsSetting at) (g : Given) (old new : Going) (c : C
         subst (λ (ts : Vec Tally Global). AreTallied g.documents (with_begun going.stage document) ts.items) (sym begins.tallies)
         (tallied_begun g.documents going.stage old.tallies.items going.tallied document up.unsettled);
     started =
-        subst (All (HasToldStart g (map outgoing_said new.messages.items))) (sym begins.jobs)
-        (All-push (HasToldStart g (map outgoing_said new.messages.items)) old.jobs.items begins.job
-        (subst (λ (ms : List Said). All (HasToldStart g ms) old.jobs.items) (sym begins.messages)
-        (λ k d h. Contains-append_left (map outgoing_said old.messages.items) _ _ (going.started k d h))) told_own);
+        subst (All (HasToldStart g (told ++ start ∷ []))) (sym begins.jobs)
+        (All-push (HasToldStart g (told ++ start ∷ [])) old.jobs.items begins.job
+        (λ k d h. Contains-append_left told (start ∷ []) _ (going.started k d h)) told_own);
     checked =
-        subst (λ (ms : List Made). All (λ (it : Made). HasChecked (told_by g (map outgoing_said new.messages.items)) (build_document at.workspace.now it.pair).key) ms) (sym made_same)
-        (subst (λ (ms : List Said). All (λ (it : Made). HasChecked (told_by g ms) (build_document at.workspace.now it.pair).key) old.made.items) (sym begins.messages)
-        (λ k d h. checked_still g (map outgoing_said old.messages.items) _ _ (going.checked k d h)));
+        subst (λ (ms : List Made). All (λ (it : Made). HasChecked (told_by g (told ++ start ∷ [])) (build_document at.workspace.value it.pair).key) ms) (sym made_same)
+        (λ k d h. checked_still g told (start ∷ []) _ (going.checked k d h));
     numbers = subst (AreNumbersOf keys) (sym begins.checks) (came.numbers keys going.numbers);
-    remembers = going.remembers;
   }

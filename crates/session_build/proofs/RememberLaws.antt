@@ -16,7 +16,7 @@ use Rattle.session_law.specs.Builds.{build_document}
 use Rattle.session_law.specs.History.{AreShown, Due, HasStarted, Known, LastChecked, SameCheck, Told, world_in}
 use Rattle.session_law.specs.Requests.{Active}
 use Rattle.session_law.proofs.HistoryLaws.{checked_started, last_checked, last_one}
-use Rattle.session_build.specs.Remembering.{FirstFits, IsOfLast, IsOfSome, OtherFits, Remembers}
+use Rattle.session_build.specs.Remembering.{FirstFits, IsOfLast, IsOfSome, OtherFits, RemembersChecks}
 use Rattle.session_build.proofs.DocumentLaws.{key_at, keys_apart}
 use Rattle.session_law.proofs.ListLaws.{contains_first, contains_later}
 use Rattle.target_graph.specs.Workspace.{Space, pairs_of, stem_at}
@@ -27,16 +27,16 @@ use Rattle.task_stream.specs.declared.shown.TableKey.{TableKey}
 -- ---- as keys get numbers
 
 module _ (old new : List (List ℕ)) (more : Extends old new) where
-  first_on : (builds : List Told) (p : ℕ) (key : TableKey) (place : Option FactTree) → FirstFits old builds p key place → FirstFits new builds p key place
+  pub first_on : (builds : List Told) (p : ℕ) (key : TableKey) (place : Option FactTree) → FirstFits old builds p key place → FirstFits new builds p key place
   first_on builds p key None fits = fits
   first_on builds p key (Some fact) fits = record { told = fits.told; last = fits.last; kept = kept_on old new more (world_in fits.told.active) p fact fits.kept }
 
-  other_on : (builds : List Told) (p : ℕ) (key : TableKey) (place : Option FactTree) → OtherFits old builds p key place → OtherFits new builds p key place
+  pub other_on : (builds : List Told) (p : ℕ) (key : TableKey) (place : Option FactTree) → OtherFits old builds p key place → OtherFits new builds p key place
   other_on builds p key None fits = tt
   other_on builds p key (Some fact) fits =
       record { told = fits.told; there = fits.there; started = fits.started; kept = kept_on old new more (world_in fits.told.active) p fact fits.kept }
 
-  pub remembers_on : (space : Space) (builds : List Told) (cache : Cache) → Remembers space builds (record { cache = cache; keys = old }) → Remembers space builds (record { cache = cache; keys = new })
+  pub remembers_on : (space : Space) (builds : List Told) (cache : Cache) → RemembersChecks space builds cache old → RemembersChecks space builds cache new
   remembers_on space builds cache remembers = record {
     of_space = remembers.of_space;
     first = λ p pair there. first_on builds p (build_document space p).key (first_at cache (key_of pair)) (remembers.first p pair there);
@@ -60,7 +60,7 @@ made_first keys builds p key fact is =
 made_other : (keys : List (List ℕ)) (builds : List Told) (p : ℕ) (key : TableKey) (fact : FactTree) → IsOfSome keys builds p key fact → IsMade keys builds p key fact
 made_other keys builds p key fact is = record { told = is.told; there = is.there; started = is.started; kept = is.kept }
 
-module _ (keys : List (List ℕ)) (builds : List Told) (space : Space) (cache : Cache) (remembers : Remembers space builds (record { cache = cache; keys = keys }))
+module _ (keys : List (List ℕ)) (builds : List Told) (space : Space) (cache : Cache) (remembers : RemembersChecks space builds cache keys)
     (active : Active) (of_space : active.build.space ≡ space) (p : ℕ) (pair : Pair) (there : slice_get (pairs_of space.targets) p ≡ Some pair) where
   abbrev w : World
   w = world_in active

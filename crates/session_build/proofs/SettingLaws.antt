@@ -24,37 +24,37 @@ index_there xs n k is =
     let found = position-Some (nat_eq n) xs k n is in
     slice_get-get_or xs k n found.0 ∙ ap (λ m. Some m) (sym ((Decides-eqb n (get_or xs k n)).0 found.1))
 
-module _ (at : Setting) (is : IsSetting at) (pair : ℕ) (among : Contains (map (λ (d : BuildDocument). d.pair) at.documents.now) pair) where
+module _ (at : Setting) (is : IsSetting at) (pair : ℕ) (among : Contains (map (λ (d : BuildDocument). d.pair) at.documents) pair) where
   keyed : Contains at.pairs.keys pair
   keyed = subst (λ ps. Contains ps pair) (sym is.pairs) among
 
-  pub pair_of : IsPairOf at.workspace.now.targets at.targets.keys pair
-  pair_of = All-contains (IsPairOf at.workspace.now.targets at.targets.keys) at.pairs.keys pair is.each keyed
+  pub pair_of : IsPairOf at.workspace.value.targets at.targets.keys pair
+  pair_of = All-contains (IsPairOf at.workspace.value.targets at.targets.keys) at.pairs.keys pair is.each keyed
 
-  pub document_at : (place : ℕ) → position (nat_eq pair) at.pairs.keys ≡ Some place → slice_get at.documents.now place ≡ Some (build_document at.workspace.now pair)
+  pub document_at : (place : ℕ) → position (nat_eq pair) at.pairs.keys ≡ Some place → slice_get at.documents place ≡ Some (build_document at.workspace.value pair)
   document_at place found =
       ap (λ (ds : List BuildDocument). slice_get ds place) is.are
-      ∙ (slice_get-map (build_document at.workspace.now) at.pairs.keys place
-      ∙ ap (λ (o : Option ℕ). option_map (build_document at.workspace.now) o) (index_there at.pairs.keys pair place found))
+      ∙ (slice_get-map (build_document at.workspace.value) at.pairs.keys place
+      ∙ ap (λ (o : Option ℕ). option_map (build_document at.workspace.value) o) (index_there at.pairs.keys pair place found))
 
-  pub number_at : (target : Pair) (before : ℕ) → slice_get (pairs_of at.workspace.now.targets) pair ≡ Some target → position (nat_eq target.target) at.targets.keys ≡ Some before
+  pub number_at : (target : Pair) (before : ℕ) → slice_get (pairs_of at.workspace.value.targets) pair ≡ Some target → position (nat_eq target.target) at.targets.keys ≡ Some before
       → IsNumberOf at pair (before + 1)
   number_at target before there found = record {
     before = before;
     target = target.target;
     there = index_there at.targets.keys target.target before found;
     number_is = omega arith;
-    id_is = ap (id_of at.workspace.now) (sym (target_here at.workspace.now.targets pair target there));
+    id_is = ap (id_of at.workspace.value) (sym (target_here at.workspace.value.targets pair target there));
   }
 
-  pub target_listed : (target : Pair) → slice_get (pairs_of at.workspace.now.targets) pair ≡ Some target → Contains at.targets.keys target.target
+  pub target_listed : (target : Pair) → slice_get (pairs_of at.workspace.value.targets) pair ≡ Some target → Contains at.targets.keys target.target
   target_listed target there =
       subst (λ (x : Pair). Contains at.targets.keys x.target) (same_Some pair_of.pair target (sym pair_of.there ∙ there)) pair_of.among
 
-  pub pair_there : (pairs : List Pair) (x : Pair) → pairs ≡ pairs_of at.workspace.now.targets → x ≡ get_or pairs pair x → slice_get (pairs_of at.workspace.now.targets) pair ≡ Some x
+  pub pair_there : (pairs : List Pair) (x : Pair) → pairs ≡ pairs_of at.workspace.value.targets → x ≡ get_or pairs pair x → slice_get (pairs_of at.workspace.value.targets) pair ≡ Some x
   pair_there pairs x are e =
-      slice_get_read (pairs_of at.workspace.now.targets) (length (pairs_of at.workspace.now.targets)) pair x refl
-      (slice_get_within (pairs_of at.workspace.now.targets) pair pair_of.pair pair_of.there) (e ∙ ap (λ (ps : List Pair). get_or ps pair x) are)
+      slice_get_read (pairs_of at.workspace.value.targets) (length (pairs_of at.workspace.value.targets)) pair x refl
+      (slice_get_within (pairs_of at.workspace.value.targets) pair pair_of.pair pair_of.there) (e ∙ ap (λ (ps : List Pair). get_or ps pair x) are)
 
 -- ---- the pairs of documents
 

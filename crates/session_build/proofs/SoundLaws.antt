@@ -3,7 +3,6 @@ use Rattle.std.proofs.Common.{◌≡◌, ◌≢◌, ◌⊎◌, inl, inr, ◌++�
 use Rattle.std.specs.Prelude.{Vec, slice_set}
 use Rattle.std.specs.List.{All, AllPairs, Contains}
 use Rattle.std.specs.declared.alloc.Global.{Global}
-use Rattle.std.specs.declared.collections.VecDeque.{VecDeque}
 use Rattle.std.proofs.lemmas.List.{length-append, length-set, map-append}
 use Rattle.std.proofs.lemmas.List.Elements.{All-contains, All-head, All-push, All-tail, Contains-append_left, Contains-get_or, Contains-push, Contains-push_cases}
 use Rattle.build_sources.specs.Documents.{AreImportsOf}
@@ -12,17 +11,18 @@ use Rattle.build_checks.specs.declared.checks.Checks.{Checks}
 use Rattle.build_rules.specs.World.{World, IsCyclic, held_in}
 use Rattle.check_cache.specs.Facts.{FactTree, names_of}
 use Rattle.bsp_records.specs.Table.{Table}
+use Rattle.rpc_peer.specs.Said.{Said}
 use Rattle.session_law.specs.declared.BuildDocument.{BuildDocument}
 use Rattle.session_law.proofs.ListLaws.{contains_map, distinct_push}
-use Rattle.session_build.specs.Going.{AreSound, Begins, IsJob, IsSound, SettlesBy, all_left}
+use Rattle.session_build.specs.Going.{AreSound, Begins, IsJob, IsSound, SettlesBy, TakesOut, all_left}
 use Rattle.session_build.specs.Stages.{SameMembers}
 use Rattle.session_build.specs.declared.going.Going.{Going}
 use Rattle.session_build.specs.declared.going.Job.{Job}
-use Rattle.session_build.specs.declared.outgoing.Outgoing.{Outgoing}
 use Rattle.session_build.specs.declared.setting.Setting.{Setting}
 use Rattle.session_build.specs.declared.tally.Tally.{Tally}
 use Rattle.session_build.proofs.GoingLaws.{Came}
 use Rattle.session_build.proofs.Members.{distinct_first, distinct_rest, image_of}
+use Rattle.session_build.proofs.Moved.{all_by, map_moved, moved_back}
 
 -- ---- one module more
 
@@ -54,7 +54,7 @@ module _ (at : Setting) (old : Going) (sound : IsSound at old) (c : Checks) (pai
   pub among_here : Contains (modules_of c) pair
   among_here = subst (λ ms. Contains ms pair) (sym came.modules_same) came.next.ready.among
 
-  pub among_documents : Contains (map (λ (d : BuildDocument). d.pair) at.documents.now) pair
+  pub among_documents : Contains (map (λ (d : BuildDocument). d.pair) at.documents) pair
   among_documents = (sound.modules pair).1 came.next.ready.among
 
   pub clear_here : IsClear (world_of c) (settled_of c) pair
@@ -73,7 +73,8 @@ module _ (at : Setting) (old : Going) (sound : IsSound at old) (c : Checks) (pai
 
   -- ---- its check is kept
 
-  module _ (new : Going) (begun : Bool) (fact : FactTree) (keys later : List (List ℕ)) (table shown : Table) (settles : SettlesBy at (record old { checks = c }) new pair begun fact keys later table shown) where
+  module _ (new : Going) (begun : Bool) (fact : FactTree) (keys later : List (List ℕ)) (table shown : Table) (before after : List Said)
+      (settles : SettlesBy at (record old { checks = c }) new pair begun fact keys later table shown before after) where
     settled_is : settled_of new.checks ≡ settled_of old.checks ++ pair ∷ []
     settled_is = settles.settled ∙ ap (λ xs. xs ++ pair ∷ []) came.settled_same
 
@@ -99,10 +100,11 @@ module _ (at : Setting) (old : Going) (sound : IsSound at old) (c : Checks) (pai
 
     pub hit_sound : IsSound at new
     hit_sound =
-        let jobs : new.jobs.items ≡ old.jobs.items = ap (λ (v : VecDeque Job Global). v.items) settles.jobs in
+        let jobs : new.jobs.items ≡ old.jobs.items = ap (λ (v : Vec Job Global). v.items) settles.jobs in
         record {
           checks = settles.checks;
-          modules = subst (SameMembers (map (λ (d : BuildDocument). d.pair) at.documents.now)) (sym (settles.modules_same ∙ came.modules_same)) sound.modules;
+          space = ap (λ (w : World). w.targets) (settles.world_same ∙ came.world_same) ∙ sound.space;
+          modules = subst (SameMembers (map (λ (d : BuildDocument). d.pair) at.documents)) (sym (settles.modules_same ∙ came.modules_same)) sound.modules;
           sized = ap (λ (ts : List Tally). length ts) settles.tallies ∙ (set_size old.tallies.items settles.place settles.tally ∙ sound.sized);
           settled_taken = λ p there. settled_in p (settled_cases p there);
           each = subst (All (IsJob new.checks)) (sym jobs) (λ k d h. still (get_or old.jobs.items k d) (sound.each k d h));
@@ -111,14 +113,14 @@ module _ (at : Setting) (old : Going) (sound : IsSound at old) (c : Checks) (pai
 
     pub hit_left : left_of c < left_of old.checks → all_left new.checks new.jobs.items < all_left old.checks old.jobs.items
     hit_left less =
-        let jobs : length new.jobs.items ≡ length old.jobs.items = ap (λ (v : VecDeque Job Global). length v.items) settles.jobs in
+        let jobs : length new.jobs.items ≡ length old.jobs.items = ap (λ (v : Vec Job Global). length v.items) settles.jobs in
         let same = settles.left_same in
         omega arith
 
   -- ---- a check of it starts
 
   module _ (checks : AreChecks c) (new : Going) (imports : List (List ℕ × ℕ)) (named : AreImportsOf (held_in (world_of c) pair) (names_of imports))
-      (begins : Begins at (record old { checks = c }) new pair imports) where
+      (before after : List Said) (begins : Begins at (record old { checks = c }) new pair imports before after) where
     pair_same : pair ≡ begins.job.pair
     pair_same = sym begins.pair_is
 
@@ -145,7 +147,8 @@ module _ (at : Setting) (old : Going) (sound : IsSound at old) (c : Checks) (pai
         (subst (λ (js : List Job). AreSound at c js old.tallies.items) (sym begins.jobs)
         (record {
           checks = checks;
-          modules = subst (SameMembers (map (λ (d : BuildDocument). d.pair) at.documents.now)) (sym came.modules_same) sound.modules;
+          space = ap (λ (w : World). w.targets) came.world_same ∙ sound.space;
+          modules = subst (SameMembers (map (λ (d : BuildDocument). d.pair) at.documents)) (sym came.modules_same) sound.modules;
           sized = sound.sized;
           settled_taken = λ p there. taken_more p (sound.settled_taken p (subst (λ xs. Contains xs p) came.settled_same there));
           each = All-push (IsJob c) old.jobs.items begins.job (λ k d h. waits (get_or old.jobs.items k d) (sound.each k d h)) own;
@@ -179,18 +182,40 @@ module _ (at : Setting) (old : Going) (sound : IsSound at old) (c : Checks) (che
   pub idle_sound : AreSound at c old.jobs.items old.tallies.items
   idle_sound = record {
     checks = checks;
-    modules = subst (SameMembers (map (λ (d : BuildDocument). d.pair) at.documents.now)) (sym modules) sound.modules;
+    space = ap (λ (w : World). w.targets) world ∙ sound.space;
+    modules = subst (SameMembers (map (λ (d : BuildDocument). d.pair) at.documents)) (sym modules) sound.modules;
     sized = sound.sized;
     settled_taken = λ p there. subst (λ xs. Contains xs p) (sym taken) (sound.settled_taken p (subst (λ xs. Contains xs p) settled there));
     each = λ k d h. idle_job (get_or old.jobs.items k d) (sound.each k d h);
     distinct = sound.distinct;
   }
 
+-- ---- a check is taken out
+
+-- what is left is sound beside it
+pub taken_sound : (at : Setting) (c : Checks) (old new : List Job) (job : Job) (tallies : List Tally) → TakesOut old new job → AreSound at c old tallies → AreSound at c (job ∷ new) tallies
+taken_sound at c old new job tallies takes sound =
+    let front = takes.front in
+    let back = takes.back in
+    record {
+      checks = sound.checks;
+      space = sound.space;
+      modules = sound.modules;
+      sized = sound.sized;
+      settled_taken = sound.settled_taken;
+      each =
+          all_by (IsJob c) old (job ∷ new)
+          (λ it there. subst (λ (js : List Job). Contains js it) (sym takes.before) (moved_back front back job it (subst (λ (js : List Job). Contains (job ∷ js) it) takes.after there))) sound.each;
+      distinct =
+          subst (λ (js : List Job). AllPairs ◌≢◌ (map (λ (j : Job). j.pair) (job ∷ js))) (sym takes.after)
+          (map_moved (λ (j : Job). j.pair) front back job (subst (λ (js : List Job). AllPairs ◌≢◌ (map (λ (j : Job). j.pair) js)) takes.before sound.distinct));
+    }
+
 -- ---- a check finishes
 
-module _ (at : Setting) (old mid : Going) (told : VecDeque Outgoing Global) (job : Job) (fact : FactTree) (keys later : List (List ℕ)) (table shown : Table)
+module _ (at : Setting) (old mid : Going) (job : Job) (fact : FactTree) (keys later : List (List ℕ)) (table shown : Table) (queued after : List Said)
     (sound : AreSound at old.checks (job ∷ old.jobs.items) old.tallies.items)
-    (settles : SettlesBy at (record old { messages = told }) mid job.pair true fact keys later table shown) where
+    (settles : SettlesBy at old mid job.pair true fact keys later table shown queued after) where
   pub job_here : IsJob old.checks job
   job_here = All-head (IsJob old.checks) job old.jobs.items sound.each
 
@@ -215,10 +240,11 @@ module _ (at : Setting) (old mid : Going) (told : VecDeque Outgoing Global) (job
 
   pub finish_sound : AreSound at mid.checks mid.jobs.items mid.tallies.items
   finish_sound =
-      let jobs : mid.jobs.items ≡ old.jobs.items = ap (λ (v : VecDeque Job Global). v.items) settles.jobs in
+      let jobs : mid.jobs.items ≡ old.jobs.items = ap (λ (v : Vec Job Global). v.items) settles.jobs in
       record {
         checks = settles.checks;
-        modules = subst (SameMembers (map (λ (d : BuildDocument). d.pair) at.documents.now)) (sym settles.modules_same) sound.modules;
+        space = ap (λ (w : World). w.targets) settles.world_same ∙ sound.space;
+        modules = subst (SameMembers (map (λ (d : BuildDocument). d.pair) at.documents)) (sym settles.modules_same) sound.modules;
         sized = ap (λ (ts : List Tally). length ts) settles.tallies ∙ (set_size old.tallies.items settles.place settles.tally ∙ sound.sized);
         settled_taken = λ p there. finished_in p (finished_cases p there);
         each =

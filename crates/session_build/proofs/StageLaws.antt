@@ -10,6 +10,7 @@ use Rattle.session_law.specs.History.{world_in}
 use Rattle.session_law.specs.declared.BuildDocument.{BuildDocument}
 use Rattle.session_law.proofs.ListLaws.{contains_cases, contains_none}
 use Rattle.session_build.specs.Stages.{Adds, Agrees, AreBegun, IsFirstIn, IsReadyIn, IsRunning, NoneIsReadyIn, Running, SameMembers, pairs_running}
+use Rattle.session_build.proofs.Moved.{all_by, map_moved, moved_back, moved_map}
 use Rattle.session_build.proofs.Members.{IsImage, contains_at, contains_map, distinct_first, distinct_push, distinct_rest, image_of}
 
 -- ---- members
@@ -239,7 +240,7 @@ module _ (g : Given) where
         begun q (inl h) = begun_old q (are.begun q h)
         begun q (inr is) = inr (here q is)
 
-  -- the oldest of those that run finishes
+  -- the first of those that run finishes
   pub begun_checked : (s : Stage) (it : Running) (rest : List Running) (made : List ℕ) (finding : Finding) → AreBegun g s (it ∷ rest) made
       → finding.document.pair ≡ it.pair → AreBegun g (with_checked s finding) rest (made ++ it.pair ∷ [])
   begun_checked s it rest made finding are own = record {
@@ -278,3 +279,23 @@ module _ (g : Given) where
       begun : (q : ℕ) → Contains made q ⊎ Contains (pairs_running (it ∷ rest)) q → Contains (made ++ it.pair ∷ []) q ⊎ Contains (pairs_running rest) q
       begun q (inl h) = inl (Contains-append_left made (it.pair ∷ []) q h)
       begun q (inr h) = begun_rest q (contains_cases it.pair (pairs_running rest) q h)
+
+-- which of those that run is spoken of first changes nothing
+pub begun_moved : (g : Given) (s : Stage) (front back : List Running) (it : Running) (made : List ℕ) → AreBegun g s (front ++ it ∷ back) made → AreBegun g s (it ∷ (front ++ back)) made
+begun_moved g s front back it made are = record {
+  each = all_by (IsRunning g s) (front ++ it ∷ back) (it ∷ (front ++ back)) (moved_back front back it) are.each;
+  distinct = map_moved (λ (r : Running). r.pair) front back it are.distinct;
+  taken = λ q there. settled_or q (are.taken q there);
+  begun = λ q there. made_or q (are.begun q there);
+  made_begun = are.made_begun;
+  made_settled = are.made_settled;
+  made_distinct = are.made_distinct;
+}
+  where
+    settled_or : (q : ℕ) → Contains (pairs_in s.settled) q ⊎ Contains (pairs_running (front ++ it ∷ back)) q → Contains (pairs_in s.settled) q ⊎ Contains (pairs_running (it ∷ (front ++ back))) q
+    settled_or q (inl h) = inl h
+    settled_or q (inr h) = inr (moved_map (λ (r : Running). r.pair) front back it q h)
+
+    made_or : (q : ℕ) → Contains made q ⊎ Contains (pairs_running (front ++ it ∷ back)) q → Contains made q ⊎ Contains (pairs_running (it ∷ (front ++ back))) q
+    made_or q (inl h) = inl h
+    made_or q (inr h) = inr (moved_map (λ (r : Running). r.pair) front back it q h)

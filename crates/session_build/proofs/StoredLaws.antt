@@ -1,6 +1,6 @@
 -- What is kept of a build and of those before it, once the checks that it made are stored.
-use Rattle.std.proofs.Common.{◌≡◌, ◌==◌, ℕ, List, ◌∷◌, Bool, true, false, Option, Some, None, refl, sym, ap, subst, ◌∙◌}
-use Rattle.std.specs.List.{All, Contains, list_any, slice_get}
+use Rattle.std.proofs.Common.{◌≡◌, ◌≢◌, ◌==◌, ℕ, List, ◌∷◌, Bool, true, false, Option, Some, None, refl, sym, ap, subst, ◌∙◌}
+use Rattle.std.specs.List.{All, AllPairs, Contains, list_any, slice_get}
 use Rattle.std.proofs.lemmas.List.Elements.{All-cons, All-contains}
 use Rattle.build_checks.specs.Kept.{IsKept}
 use Rattle.check_cache.specs.Facts.{FactTree}
@@ -13,7 +13,7 @@ use Rattle.session_law.specs.History.{HasChecked, LastChecked, Told, newest, old
 use Rattle.session_law.proofs.HistoryLaws.{checked_started, last_checked}
 use Rattle.session_law.proofs.ListLaws.{contains_later, contains_map}
 use Rattle.session_build.specs.Going.{pairs_made, told_by}
-use Rattle.session_build.specs.Remembering.{FirstFits, OtherFits, Remembers}
+use Rattle.session_build.specs.Remembering.{FirstFits, OtherFits, RemembersChecks}
 use Rattle.session_build.specs.Storing.{StoresAll}
 use Rattle.session_build.specs.declared.going.Made.{Made}
 use Rattle.session_build.proofs.DocumentLaws.{among_by, apart_by, key_at}
@@ -47,7 +47,7 @@ module _ (keys : List (List ℕ)) (now : Told) (earlier : List Told) (p : ℕ) (
 -- ---- all that is kept
 
 module _ (space : Space) (g : Given) (of_space : g.active.build.space ≡ space) (messages : List Said) (keys : List (List ℕ)) (old new : Cache) (made : List Made)
-    (remembers : Remembers space g.earlier (record { cache = old; keys = keys })) (stored : StoresAll space made old new)
+    (remembers : RemembersChecks space g.earlier old keys) (stored : StoresAll space made old new)
     (kept : All (λ it. IsKept keys (world_in g.active) it.pair it.fact) made) (checked : All (λ q. HasChecked (told_by g messages) (key_at space q)) (pairs_made made))
     (unchecked : (p : ℕ) (pair : Pair) → slice_get (pairs_of space.targets) p ≡ Some pair → ¬ (Contains (pairs_made made) p) → ¬ (HasChecked (told_by g messages) (key_at space p)))
   where
@@ -94,9 +94,24 @@ module _ (space : Space) (g : Given) (of_space : g.active.build.space ≡ space)
           other_made image.it image.there image.is
       other_fits false is = other_still (apart_by (pairs_made made) p is)
 
-    pub remembers_more : Remembers space (now ∷ g.earlier) (record { cache = new; keys = keys })
+    pub remembers_more : RemembersChecks space (now ∷ g.earlier) new keys
     remembers_more = record {
       of_space = All-cons (λ (told : Told). told.active.build.space ≡ space) now g.earlier of_space remembers.of_space;
       first = λ p pair there. first_fits p pair there (list_any (λ n. n == p) (pairs_made made)) refl;
       other = λ p pair there. other_fits p pair there (list_any (λ n. n == p) (pairs_made made)) refl;
     }
+
+-- ---- the checks that a build made
+
+-- Each is of a pair of its own, and no other document of the workspace was checked.
+pub record AreMade (space : Space) (told : Told) (keys : List (List ℕ)) (made : List Made) : Type 0 where
+  pub distinct : AllPairs ◌≢◌ (pairs_made made)
+  pub each : All (λ (it : Made). IsKept keys (world_in told.active) it.pair it.fact) made
+  pub checked : All (λ q. HasChecked told (key_at space q)) (pairs_made made)
+  pub unchecked : (p : ℕ) (pair : Pair) → slice_get (pairs_of space.targets) p ≡ Some pair → ¬ (Contains (pairs_made made) p) → ¬ (HasChecked told (key_at space p))
+
+pub stored_more : (space : Space) (g : Given) → g.active.build.space ≡ space → (messages : List Said) (keys : List (List ℕ)) (old new : Cache) (made : List Made)
+    → RemembersChecks space g.earlier old keys → (AllPairs ◌≢◌ (pairs_made made) → StoresAll space made old new) → AreMade space (told_by g messages) keys made
+    → RemembersChecks space (told_by g messages ∷ g.earlier) new keys
+stored_more space g of_space messages keys old new made remembers stores are =
+    remembers_more space g of_space messages keys old new made remembers (stores are.distinct) are.each are.checked are.unchecked

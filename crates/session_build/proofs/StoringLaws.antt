@@ -25,11 +25,11 @@ use Rattle.target_graph.proofs.Distinct.{AreApart}
 
 -- ---- the keys of pairs
 
-same_key : (a : PairKey) → same_pair a a ≡ true
+pub same_key : (a : PairKey) → same_pair a a ≡ true
 same_key a =
     ap (λ b. b && bytes_eq a.path a.path) ((Decides-eqb a.target a.target).1 refl) ∙ (bytes_eq-Decides a.path a.path).1 refl
 
-apart_key : (space : Space) (p q : Pair) → AreApart space p q → same_pair (key_of p) (key_of q) ≡ false
+pub apart_key : (space : Space) (p q : Pair) → AreApart space p q → same_pair (key_of p) (key_of q) ≡ false
 apart_key space p q apart = by (p.target == q.target) refl (bytes_eq p.path q.path) refl
   where
     by : (a : Bool) → (p.target == q.target) ≡ a → (b : Bool) → bytes_eq p.path q.path ≡ b → (a && b) ≡ false
@@ -45,7 +45,7 @@ module _ (space : Space) (apart : AllPairs (AreApart space) (pairs_of space.targ
       subst (λ (x : Pair). AreApart space x b) (get_or_from_slice_get pairs p a a here)
       (subst (λ (x : Pair). AreApart space (get_or pairs p a) x) (get_or_from_slice_get pairs q b a there) (apart p q a h (slice_get_within pairs q b there)))
 
-  apart_at : (p q : ℕ) (a b : Pair) → slice_get (pairs_of space.targets) p ≡ Some a → slice_get (pairs_of space.targets) q ≡ Some b → ¬ (p ≡ q) → AreApart space a b
+  pub apart_at : (p q : ℕ) (a b : Pair) → slice_get (pairs_of space.targets) p ≡ Some a → slice_get (pairs_of space.targets) q ≡ Some b → ¬ (p ≡ q) → AreApart space a b
   apart_at p q a b here there other = by (cases_lt p q) (cases_lt q p)
     where
       by : (p < q) ⊎ (q ≤ p) → (q < p) ⊎ (p ≤ q) → AreApart space a b

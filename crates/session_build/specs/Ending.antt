@@ -26,11 +26,11 @@ report_by origin id tally =
     }
 
 abbrev pub report_of : Setting → List Tally → List ℕ → CompileReport
-report_of at tallies id = report_by at.origin.value id (tally_of id at.documents.now tallies)
+report_of at tallies id = report_by at.origin.value id (tally_of id at.documents tallies)
 
 -- the report of the target with this index and number
 abbrev pub target_reported : Setting → List Tally → ℕ → ℕ → Said
-target_reported at tallies i target = target_finishes at.number i (report_of at tallies (id_of at.workspace.now target))
+target_reported at tallies i target = target_finishes at.number i (report_of at tallies (id_of at.workspace.value target))
 
 -- the targets are reported in their order, from this number on
 abbrev pub targets_reported : Setting → List Tally → ℕ → List ℕ → List Said

@@ -1,9 +1,12 @@
+pub mod AtWork
 pub mod Building
+pub mod Cancels
 pub mod Documents
 pub mod Ending
 pub mod Going
-pub mod Gone
+pub mod Late
 pub mod Outgoing
+pub mod Pausing
 pub mod Publishing
 pub mod Remembering
 pub mod Setting

@@ -20,6 +20,9 @@ pub record IsOnCourse (g : Given) (s : Stage) (messages : List Said) (table : Ta
   pub notices : All (λ m. notice_in m ≡ m ∷ []) messages
   pub kept : (document target : List ℕ) → table document target ≡ table_behind messages g.table document target
   pub shows : All (Shows table) s.settled
+  -- and of each document that isn't settled what it showed at first
+  pub others : (document : BuildDocument) → Contains g.documents document → ¬ (Contains (pairs_in s.settled) document.pair)
+      → table document.key.document document.key.target ≡ g.table document.key.document document.key.target
 
 -- ---- which modules are settled
 

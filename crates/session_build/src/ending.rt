@@ -1,11 +1,12 @@
-ghost use Rattle.std.specs.Prelude.{◌≡◌, ◌++◌, ◌<◌, ◌+◌, ◌^◌, length, slice_index, map, IfOk, OnOk};
-ghost use Rattle.std.specs.List.{All, list_any};
+ghost use Rattle.std.specs.Prelude.{◌≡◌, ◌<◌, ◌+◌, ◌^◌, length, slice_index, map, IfOk, OnOk};
+ghost use Rattle.std.specs.List.{list_any};
 ghost use Rattle.bsp_address.specs.Address.{IsAddress};
 ghost use Rattle.session_law.specs.IsFramed.{IsFramed};
 ghost use Rattle.session_build.specs.Ending.{ends_said, no_op_by, report_by, target_reported, targets_reported};
 ghost use Rattle.session_build.specs.Outgoing.{outgoing_said};
 ghost use Rattle.session_build.specs.Setting.{IsSetting};
 ghost use Rattle.session_build.specs.Tallies.{has_errors};
+ghost use Rattle.session_build.specs.Telling.{Tells};
 
 use crate::going::status_of;
 use crate::outgoing::Outgoing;
@@ -17,55 +18,50 @@ use bsp_records::{BuildTargetIdentifier, CompileReport};
 use ob_text::{NoMemory, Text};
 use std::alloc::Global;
 use std::collections::VecDeque;
+use target_graph::Workspace;
 
 /// Puts behind the messages the reports of the targets and the build's finish, and tells whether some document has an error.
 /// What came of each document stands at its index.
 pub(crate) fn end_build(
-    at: &Setting<'_>,
+    at: &Setting,
     tallies: &[Tally],
-    messages: &mut VecDeque<Outgoing>,
+    out: &mut VecDeque<Outgoing>,
 ) -> Result<bool, NoMemory>
     requires setting { IsSetting at.now }
-    requires sized { length tallies.now ≡ length at.now.documents.now }
-    ensures said { OnOk result (map outgoing_said messages.new.items
-        ≡ map outgoing_said messages.old.items ++ ends_said at.now tallies.now) }
-    ensures framed { OnOk result (All IsFramed (map outgoing_said messages.old.items)
-        → All IsFramed (map outgoing_said messages.new.items)) }
+    requires sized { length tallies.now ≡ length at.now.documents }
+    ensures tells { OnOk result (Tells (ends_said at.now tallies.now) (map outgoing_said out.old.items) (map outgoing_said out.new.items)) }
     ensures failed { IfOk result (λ failed. failed ≡ list_any has_errors tallies.now) }
     // A number of 64 bits counts the targets.
     ensures few { length at.now.targets.keys < 2 ^ 64 }
 {
     let _count = at.targets.len();
-    report_targets(at, tallies, messages)?;
+    report_targets(at, tallies, out)?;
     let failed = has_errors(tallies);
     let finish = build_finishes(at.alloc, at.number, status_of(failed))?;
-    messages.push_back(finish)?;
+    out.push_back(finish)?;
     Ok(failed)
 }
 
 /// Puts the reports of the targets behind the messages, in their order.
 fn report_targets(
-    at: &Setting<'_>,
+    at: &Setting,
     tallies: &[Tally],
-    messages: &mut VecDeque<Outgoing>,
+    out: &mut VecDeque<Outgoing>,
 ) -> Result<(), NoMemory>
     requires setting { IsSetting at.now }
-    requires sized { length tallies.now ≡ length at.now.documents.now }
-    ensures said { OnOk result (map outgoing_said messages.new.items
-        ≡ map outgoing_said messages.old.items ++ targets_reported at.now tallies.now 1 at.now.targets.keys) }
-    ensures framed { OnOk result (All IsFramed (map outgoing_said messages.old.items)
-        → All IsFramed (map outgoing_said messages.new.items)) }
+    requires sized { length tallies.now ≡ length at.now.documents }
+    ensures { OnOk result (Tells (targets_reported at.now tallies.now 1 at.now.targets.keys) (map outgoing_said out.old.items) (map outgoing_said out.new.items)) }
 {
     for place in 0..at.targets.len() {
-        messages.push_back(report_target(at, tallies, place)?)?;
+        out.push_back(report_target(at, tallies, place)?)?;
     }
     Ok(())
 }
 
 /// The target at this index among those of the build finishes, with its report.
-fn report_target(at: &Setting<'_>, tallies: &[Tally], place: usize) -> Result<Outgoing, NoMemory>
+fn report_target(at: &Setting, tallies: &[Tally], place: usize) -> Result<Outgoing, NoMemory>
     requires setting { IsSetting at.now }
-    requires sized { length tallies.now ≡ length at.now.documents.now }
+    requires sized { length tallies.now ≡ length at.now.documents }
     requires within { place < length at.now.targets.keys }
     ensures said { IfOk result (λ m. outgoing_said m
         ≡ target_reported at.now tallies.now (place + 1) (slice_index at.now.targets.keys place)) }
@@ -76,8 +72,9 @@ fn report_target(at: &Setting<'_>, tallies: &[Tally], place: usize) -> Result<Ou
     let Some(target) = at.targets.get_index(place) else {
         unreachable!()
     };
-    let id = at.workspace.target_id(*target)?;
-    let sum = tally_of(at.documents, tallies, &id)?;
+    let space: &Workspace = &at.workspace;
+    let id = space.target_id(*target)?;
+    let sum = tally_of(at.documents.as_slice(), tallies, &id)?;
     let report = report_of(at.alloc, &at.origin, &id, sum)?;
     target_finishes(at.alloc, at.number, number, report)
 }

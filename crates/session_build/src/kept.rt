@@ -1,14 +1,20 @@
 ghost use Rattle.session_build.specs.Remembering.{IsEmpty};
 
+use crate::late::Late;
 use check_cache::Cache;
 use iface_key::Keys;
 use std::alloc::Global;
+use std::collections::VecDeque;
 
-/// The checks that a session keeps from build to build, with the numbers of the keys of what modules showed.
+/// The checks that a session keeps from build to build, with the numbers of the keys of what modules showed, and those of
+/// cancelled builds that may still come.
 #[derive(Drop)]
 pub struct Kept {
+    pub(crate) alloc: Global,
     pub(crate) cache: Cache,
     pub(crate) keys: Keys,
+    /// The oldest first.
+    pub(crate) late: VecDeque<Late>,
 }
 
 impl Kept {
@@ -17,8 +23,10 @@ impl Kept {
         ensures { IsEmpty result }
     {
         Kept {
+            alloc,
             cache: Cache::new(alloc),
             keys: Keys::new(alloc),
+            late: VecDeque::new(alloc),
         }
     }
 }

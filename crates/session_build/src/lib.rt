@@ -2,15 +2,20 @@
 //!
 //! It stands on `target_graph` for the documents, on `build_checks` and `check_cache` for the checks that are due, on
 //! `task_stream` for what a client shows, and on `session_law`, which says what a build tells. It knows one build and the
-//! checks that are kept, and nothing of other requests. Begin with `build` and `specs/Building.antt`, then `going.rt`; what
-//! is told waits as `Outgoing` (`outgoing.rt`), that of tasks is made in `tasks.rt`.
+//! checks that are kept, and nothing of other requests, nor of who makes its checks. Begin with `Build` and
+//! `specs/AtWork.antt`, then `going.rt`; what is told waits as `Outgoing` (`outgoing.rt`), that of tasks is made in
+//! `tasks.rt`, what a check found becomes a fact in `making.rt`, and what comes of the checks of a cancelled build is kept
+//! in `late.rt`. What is so of each build that rests stands in `proofs/RestLaws.antt`.
 #![tactic(auto)]
 
 mod building;
+mod cancelling;
 mod documents;
 mod ending;
 mod going;
 mod kept;
+mod late;
+mod making;
 mod outgoing;
 mod publishing;
 mod setting;
@@ -19,7 +24,8 @@ mod tally;
 mod tasks;
 mod telling;
 
-pub use building::{BuildRequest, Built, build};
+pub use building::{Build, BuildRequest, Remains, Went};
 pub use documents::{documents_of, paths_of};
 pub use kept::Kept;
+pub use oberon_module::Checked;
 pub use outgoing::Outgoing;

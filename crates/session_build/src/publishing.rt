@@ -16,17 +16,6 @@ use std::collections::VecDeque;
 use std::sync::Arc;
 use task_stream::{Piece, Shown};
 
-/// An `originId` that what is published shares.
-pub(crate) fn shared(alloc: Global, origin: &Option<Text>) -> Result<Arc<Option<Text>>, NoMemory>
-    ensures { IfOk result (λ shared. shared.value ≡ origin.now) }
-{
-    let own = match origin {
-        Some(text) => Some(text.copy(alloc)?),
-        None => None,
-    };
-    Ok(Arc::new(alloc, own)?)
-}
-
 /// An equal list of its own.
 pub(crate) fn copy_of(alloc: Global, list: &[Diagnostic]) -> Result<Vec<Diagnostic>, NoMemory>
     ensures { IfOk result (λ own. own.items ≡ list.now) }
@@ -65,15 +54,15 @@ pub(crate) fn publish_one(
     document: &BuildDocument,
     origin: &Arc<Option<Text>>,
     list: Vec<Diagnostic>,
-    messages: &mut VecDeque<Outgoing>,
+    out: &mut VecDeque<Outgoing>,
 ) -> Result<bool, NoMemory>
     requires { IfSome origin.now.value (IsTextWithin origin_limit) }
     ensures { IfOk result (IsPublishedOne (shows shown.old) (shows shown.new) document.now origin.now.value
-        list.items (map outgoing_said messages.old.items) (map outgoing_said messages.new.items)) }
+        list.items (map outgoing_said out.old.items) (map outgoing_said out.new.items)) }
 {
     let failed = has_error(list.as_slice());
     let pieces = shown.publish(&document.key, origin, list)?;
-    say_all(pieces, messages)?;
+    say_all(pieces, out)?;
     Ok(failed)
 }
 
@@ -86,12 +75,12 @@ pub(crate) fn has_error(list: &[Diagnostic]) -> bool
 }
 
 /// Puts some publications behind the others.
-fn say_all(pieces: Vec<Piece>, messages: &mut VecDeque<Outgoing>) -> Result<(), NoMemory>
-    ensures { OnOk result (map outgoing_said messages.new.items
-        ≡ map outgoing_said messages.old.items ++ map publication_said pieces.items) }
+fn say_all(pieces: Vec<Piece>, out: &mut VecDeque<Outgoing>) -> Result<(), NoMemory>
+    ensures { OnOk result (map outgoing_said out.new.items
+        ≡ map outgoing_said out.old.items ++ map publication_said pieces.items) }
 {
     for piece in pieces {
-        messages.push_back(Outgoing::Publication(piece))?;
+        out.push_back(Outgoing::Publication(piece))?;
     }
     Ok(())
 }

@@ -3,9 +3,8 @@ ghost use Rattle.std.specs.List.{AllPairs, slice_get};
 ghost use Rattle.session_law.specs.Builds.{build_document};
 ghost use Rattle.session_build.specs.Setting.{IsSetting, IsNumberOf};
 
-use check_cache::Cache;
 use indexmap::IndexSet;
-use ob_text::Text;
+use ob_text::{Items, Text};
 use session_law::BuildDocument;
 use std::alloc::Global;
 use std::sync::Arc;
@@ -13,27 +12,26 @@ use target_graph::Workspace;
 
 /// What a build goes by.
 #[derive(Drop)]
-pub(crate) struct Setting<'a> {
+pub(crate) struct Setting {
     pub alloc: Global,
-    pub workspace: &'a Workspace,
-    pub cache: &'a Cache,
+    pub workspace: Arc<Workspace>,
     /// The ordinal of the request's message.
     pub number: u64,
     /// The request's `originId`.
     pub origin: Arc<Option<Text>>,
-    pub documents: &'a [BuildDocument],
+    pub documents: Items<BuildDocument>,
     /// Their pairs, in order.
     pub pairs: IndexSet<u32>,
     /// The targets that they are in, in the order of the workspace file.
     pub targets: IndexSet<u32>,
 }
 
-impl Setting<'_> {
+impl Setting {
     /// The index of a pair's document.
     pub fn place_of(&self, pair: u32) -> usize
         requires setting { IsSetting self.now }
-        requires among { Contains (map (λ document. document.pair) self.now.documents.now) pair }
-        ensures { slice_get self.now.documents.now result ≡ Some (build_document self.now.workspace.now pair) }
+        requires among { Contains (map (λ document. document.pair) self.now.documents) pair }
+        ensures { slice_get self.now.documents result ≡ Some (build_document self.now.workspace.value pair) }
     {
         match self.pairs.get_index_of(&pair) {
             Some(place) => place,
@@ -44,10 +42,11 @@ impl Setting<'_> {
     /// The number of the target of a pair, counted from 1.
     pub fn target_of(&self, pair: u32) -> u64
         requires setting { IsSetting self.now }
-        requires among { Contains (map (λ document. document.pair) self.now.documents.now) pair }
+        requires among { Contains (map (λ document. document.pair) self.now.documents) pair }
         ensures { IsNumberOf self.now pair result }
     {
-        let target = self.workspace.pairs()[pair as usize].target;
+        let space: &Workspace = &self.workspace;
+        let target = space.pairs()[pair as usize].target;
         let _count = self.targets.len();
         match self.targets.get_index_of(&target) {
             Some(before) => before as u64 + 1,

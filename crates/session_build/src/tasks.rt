@@ -6,7 +6,7 @@ ghost use Rattle.bsp_records.specs.Limits.{origin_limit};
 ghost use Rattle.bsp_records.specs.Tasks.{HasTaskFinishTexts, HasTaskIdTexts, HasTaskStartTexts};
 ghost use Rattle.json_shape.specs.Shapes.{IsTextWithin};
 ghost use Rattle.session_law.specs.IsFramed.{IsFramed};
-ghost use Rattle.session_law.specs.Tasks.{build_finishes, build_starts, check_finishes, check_starts, checking, checking_name, compiling, compiling_name, finish_said, report_status, start_said, target_finishes, target_starts, task_id, whole, whole_name};
+ghost use Rattle.session_law.specs.Tasks.{build_finishes, build_starts, check_finishes, check_starts, checking, checking_name, compiling, compiling_name, finish_said, report_status, start_said, target_cancelled, target_finishes, target_starts, task_id, whole, whole_name};
 ghost use Rattle.session_build.specs.Outgoing.{outgoing_said};
 
 use crate::outgoing::Outgoing;
@@ -109,6 +109,20 @@ pub(crate) fn target_finishes(
         task_id: compiling_id(alloc, build, number)?,
         status: report_status(&report),
         body: Some(TaskFinishBody::CompileReport(report)),
+    };
+    finish(alloc, params)
+}
+
+/// The target with this number finishes as cancelled, without a report.
+pub(crate) fn target_cancelled(alloc: Global, build: u64, number: u64) -> Result<Outgoing, NoMemory>
+    ensures said { IfOk result (λ m. outgoing_said m ≡ target_cancelled build number) }
+    ensures framed { IfOk result (λ m. IsFramed (outgoing_said m)) }
+{
+    let task_id = compiling_id(alloc, build, number)?;
+    let params = TaskFinishParams {
+        task_id,
+        status: StatusCode::Cancelled,
+        body: None,
     };
     finish(alloc, params)
 }

@@ -8,21 +8,20 @@ use crate::setting::Setting;
 use crate::tasks::{build_starts, target_starts};
 use ob_text::NoMemory;
 use std::collections::VecDeque;
+use target_graph::Workspace;
 
 /// What a build tells first: that it starts, and that each of its targets does.
-pub(crate) fn tell_starts(
-    at: &Setting<'_>,
-    messages: &mut VecDeque<Outgoing>,
-) -> Result<(), NoMemory>
+pub(crate) fn tell_starts(at: &Setting, out: &mut VecDeque<Outgoing>) -> Result<(), NoMemory>
     requires { IsSetting at.now }
-    ensures { OnOk result (TellsStarts at.now (map outgoing_said messages.old.items) (map outgoing_said messages.new.items)) }
+    ensures { OnOk result (TellsStarts at.now (map outgoing_said out.old.items) (map outgoing_said out.new.items)) }
 {
-    messages.push_back(build_starts(at.alloc, at.number)?)?;
+    out.push_back(build_starts(at.alloc, at.number)?)?;
+    let space: &Workspace = &at.workspace;
     let targets = at.targets.as_slice();
     for before in 0..targets.len() {
-        let id = at.workspace.target_id(targets[before])?;
+        let id = space.target_id(targets[before])?;
         let start = target_starts(at.alloc, at.number, before as u64 + 1, &id)?;
-        messages.push_back(start)?;
+        out.push_back(start)?;
     }
     Ok(())
 }

@@ -18,11 +18,13 @@ use Rattle.rpc_peer.specs.declared.message.Id.TheVariants.{Number, Text}
 use Rattle.rpc_peer.specs.Said.{IsId, HasText, id_data, id_limit, answered_data, error_data, version, body_of, result, failure}
 use Rattle.rpc_frame.specs.Limits.{content_limit}
 use Rattle.bsp_records.specs.Results.{compile_result_data, status_data}
+use Rattle.bsp_records.specs.declared.results.StatusCode.{StatusCode}
+use Rattle.bsp_records.specs.declared.results.StatusCode.TheVariants as statuses
 use Rattle.json_shape.specs.Shapes.{IsTextWithin}
 use Rattle.bsp_records.specs.ShortAnswers.{answer_limit}
 use Rattle.bsp_records.proofs.ShortLaws.{length_member, text_short}
 use Rattle.bsp_records.specs.Limits.{origin_limit}
-use Rattle.session_law.specs.Builds.{build_said, build_status}
+use Rattle.session_law.specs.Builds.{build_said, build_status, cancelled_said}
 use Rattle.session_law.specs.IsFramed.{IsFramed}
 use Rattle.session_law.specs.Methods.{initialize_result, null_message, kind_text, name_behind}
 use Rattle.rpc_peer.specs.Meaning.{parse_error}
@@ -134,37 +136,40 @@ framed_closing id h = record { of_server = tt; texts = id_text id h; exact = rw 
 
 -- ---- the response to a compile
 
-abbrev compiled : Option (List ℕ) → Bool → Data
-compiled origin failed = compile_result_data (record { origin_id = origin; status_code = build_status failed })
+abbrev compiled : Option (List ℕ) → StatusCode → Data
+compiled origin status = compile_result_data (record { origin_id = origin; status_code = status })
 
-compiled_exact : (origin : Option (List ℕ)) (failed : Bool) → has_float (compiled origin failed) ≡ false
+compiled_exact : (origin : Option (List ℕ)) (status : StatusCode) → has_float (compiled origin status) ≡ false
 unfolding serde_json_on_literals
-compiled_exact None true = refl
-compiled_exact None false = refl
-compiled_exact (Some text) true = refl
-compiled_exact (Some text) false = refl
+compiled_exact None statuses.Ok = refl
+compiled_exact None statuses.Error = refl
+compiled_exact None statuses.Cancelled = refl
+compiled_exact (Some text) statuses.Ok = refl
+compiled_exact (Some text) statuses.Error = refl
+compiled_exact (Some text) statuses.Cancelled = refl
 
 status_key : length (quoted (codes "statusCode")) ≡ 12
 unfolding serde_json_on_literals
 status_key = refl
 
-status_short : (failed : Bool) → length (compact_text (status_data (build_status failed))) ≤ 20
-status_short true = number_short (pos 2) (omega (arith, ints))
-status_short false = number_short (pos 1) (omega (arith, ints))
+status_short : (status : StatusCode) → length (compact_text (status_data status)) ≤ 20
+status_short statuses.Ok = number_short (pos 1) (omega (arith, ints))
+status_short statuses.Error = number_short (pos 2) (omega (arith, ints))
+status_short statuses.Cancelled = number_short (pos 3) (omega (arith, ints))
 
-behind_origin : (failed : Bool) → length (members_text true (member (codes "statusCode") (status_data (build_status failed)) no_members)) ≤ 40
-behind_origin failed =
-    let whole = length_members (codes "statusCode") (status_data (build_status failed)) no_members in
+behind_origin : (status : StatusCode) → length (members_text true (member (codes "statusCode") (status_data status) no_members)) ≤ 40
+behind_origin status =
+    let whole = length_members (codes "statusCode") (status_data status) no_members in
     let key = status_key in
-    let number = status_short failed in
+    let number = status_short status in
     let last : length (members_text true no_members) ≤ 1 = lit≤ tt in
     omega arith
 
-without_origin : (failed : Bool) → length (compact_text (object (member (codes "statusCode") (status_data (build_status failed)) no_members))) ≤ 7000
-without_origin failed =
-    let whole = length_object (codes "statusCode") (status_data (build_status failed)) no_members in
+without_origin : (status : StatusCode) → length (compact_text (object (member (codes "statusCode") (status_data status) no_members))) ≤ 7000
+without_origin status =
+    let whole = length_object (codes "statusCode") (status_data status) no_members in
     let key = status_key in
-    let number = status_short failed in
+    let number = status_short status in
     let last : length (members_text true no_members) ≤ 1 = lit≤ tt in
     omega arith
 
@@ -172,21 +177,23 @@ origin_key : length (quoted (codes "originId")) ≡ 10
 unfolding serde_json_on_literals
 origin_key = refl
 
-with_origin : (text : List ℕ) (failed : Bool) → length text ≤ origin_limit
-    → length (compact_text (object (member (codes "originId") (string text) (member (codes "statusCode") (status_data (build_status failed)) no_members)))) ≤ 7000
-with_origin text failed short =
-    let whole = length_object (codes "originId") (string text) (member (codes "statusCode") (status_data (build_status failed)) no_members) in
+with_origin : (text : List ℕ) (status : StatusCode) → length text ≤ origin_limit
+    → length (compact_text (object (member (codes "originId") (string text) (member (codes "statusCode") (status_data status) no_members)))) ≤ 7000
+with_origin text status short =
+    let whole = length_object (codes "originId") (string text) (member (codes "statusCode") (status_data status) no_members) in
     let quotes = text_short text in
     let key = origin_key in
-    let last = behind_origin failed in
+    let last = behind_origin status in
     omega arith
 
-compiled_short : (origin : Option (List ℕ)) (failed : Bool) → IfSome origin (IsTextWithin origin_limit) → length (compact_text (compiled origin failed)) ≤ 7000
+compiled_short : (origin : Option (List ℕ)) (status : StatusCode) → IfSome origin (IsTextWithin origin_limit) → length (compact_text (compiled origin status)) ≤ 7000
 unfolding serde_json_on_literals
-compiled_short None true short = without_origin true
-compiled_short None false short = without_origin false
-compiled_short (Some text) true short = with_origin text true short.within
-compiled_short (Some text) false short = with_origin text false short.within
+compiled_short None statuses.Ok short = without_origin statuses.Ok
+compiled_short None statuses.Error short = without_origin statuses.Error
+compiled_short None statuses.Cancelled short = without_origin statuses.Cancelled
+compiled_short (Some text) statuses.Ok short = with_origin text statuses.Ok short.within
+compiled_short (Some text) statuses.Error short = with_origin text statuses.Error short.within
+compiled_short (Some text) statuses.Cancelled short = with_origin text statuses.Cancelled short.within
 
 result_key : length (quoted (codes "result")) ≡ 8
 unfolding serde_json_on_literals
@@ -221,15 +228,22 @@ framed_result id value h printed =
       fits = result_fits id value h (let behind = behind_value value answer_limit printed.short in omega arith);
     }
 
-pub framed_build : (id : Id) (origin : Option (List ℕ)) (failed : Bool) → IsId id → IfSome origin (IsTextWithin origin_limit) → IsFramed (build_said id origin failed)
-unfolding build_said
-framed_build id origin failed h short =
+compiled_framed : (id : Id) (origin : Option (List ℕ)) (status : StatusCode) → IsId id → IfSome origin (IsTextWithin origin_limit) → IsFramed (result (Some id) (compiled origin status))
+compiled_framed id origin status h short =
     record {
       of_server = tt;
       texts = id_text id h;
-      exact = rw (id_exact id, compiled_exact origin failed);
-      fits = result_fits id (compiled origin failed) h (let behind = behind_value (compiled origin failed) 7000 (compiled_short origin failed short) in omega arith);
+      exact = rw (id_exact id, compiled_exact origin status);
+      fits = result_fits id (compiled origin status) h (let behind = behind_value (compiled origin status) 7000 (compiled_short origin status short) in omega arith);
     }
+
+pub framed_build : (id : Id) (origin : Option (List ℕ)) (failed : Bool) → IsId id → IfSome origin (IsTextWithin origin_limit) → IsFramed (build_said id origin failed)
+unfolding build_said
+framed_build id origin failed h short = compiled_framed id origin (build_status failed) h short
+
+pub framed_cancelled : (id : Id) (origin : Option (List ℕ)) → IsId id → IfSome origin (IsTextWithin origin_limit) → IsFramed (cancelled_said id origin)
+unfolding cancelled_said
+framed_cancelled id origin h short = compiled_framed id origin statuses.Cancelled h short
 
 -- a failure whose error object is short fits
 failure_fits : (id : Option Id) (code : ℤ) (text : List ℕ) → length (compact_text (answered_data id)) ≤ id_text_limit

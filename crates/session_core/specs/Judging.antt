@@ -1,5 +1,5 @@
 -- What the core finds a request to be owed, in the words of the law.
-use Rattle.std.specs.Prelude.{◌≡◌, ◌<◌, ◌≤◌, ◌++◌, ℕ, ℤ, List, length, codes, false, Option, Some, None, IsSome, Result, Ok, Err, Vec}
+use Rattle.std.specs.Prelude.{◌≡◌, ◌<◌, ◌≤◌, ◌++◌, ℕ, ℤ, List, length, codes, Bool, true, false, Option, Some, None, IsSome, Result, Ok, Err, Vec}
 use Rattle.std.specs.List.{All}
 use Rattle.std.specs.declared.alloc.Global.{Global}
 use Rattle.ob_text.specs.Ascii.{IsGraphicWithin, IsPlain}
@@ -12,7 +12,7 @@ use Rattle.serde_json.specs.Data.{Data, null}
 use Rattle.serde_json.specs.View.{view}
 use Rattle.serde_json.specs.Written.{compact_text, has_float}
 use Rattle.session_law.specs.Builds.{AreDocuments}
-use Rattle.session_law.specs.Methods.{Verdict, asking, opening, queued, building, answering, closing, refusal, Call, to_build, Found, all_found, unknown_at, refused_message, initialize_result, method_not_found, sources_unreadable, not_initialized, invalid_params, workspace_refused}
+use Rattle.session_law.specs.Methods.{Verdict, asking, opening, queued, building, answering, closing, refusal, Call, to_build, Found, all_found, unknown_at, refused_message, initialize_result, null_message, method_not_found, sources_unreadable, not_initialized, invalid_params, workspace_refused}
 use Rattle.session_law.specs.Questions.{IsAnswer}
 use Rattle.session_law.specs.RefusesExactly.{IsNoWorkspace}
 use Rattle.session_core.specs.Plans.{Plan, build_in}
@@ -55,9 +55,20 @@ Fits (opening root file) (answers.Refused reason) = IsNoWorkspace file (reason_c
 Fits (refusal code text) (answers.Refused reason) = (reason_code reason ≡ code) × (reason_text reason ≡ text)
 Fits v answer = ⊥
 
+-- it is the answer to a shutdown that closes the session
+abbrev pub closes : Answer → Bool
+closes (answers.Result value) = false
+closes (answers.Opening space) = false
+closes answers.Closing = true
+closes (answers.Refused reason) = false
+
 -- what a request of the queue asks for, as the law has it
 abbrev pub queued_call : Queued → Call
 queued_call (Build params) = to_build params.targets params.origin_id
+
+-- the `originId` that was sent with it
+abbrev pub queued_origin : Queued → Option (List ℕ)
+queued_origin (Build params) = params.origin_id
 
 -- What a request is owed at its take. One of the queue finds a workspace in force, and an initialize that is accepted none.
 abbrev pub Judges : Option Space → Verdict → Owed → Type 0
@@ -117,6 +128,10 @@ IsSaidUp (ups.Building plan) = Unit {0}
 IsSaidUp (ups.Refused reason) = IsSaid (answers.Refused reason)
 
 -- ---- answers as messages
+
+-- the response with the id null and this code
+abbrev pub answer_unread : ℤ → Said
+answer_unread code = failure None code (null_message code)
 
 -- the response that gives a request this answer
 abbrev pub answer_to : Id → Answer → Said

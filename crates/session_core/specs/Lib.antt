@@ -1,6 +1,12 @@
 pub mod Acting
+pub mod Building
+pub mod Handing
 pub mod Judging
+pub mod Marking
+pub mod Moving
+pub mod Opening
 pub mod Plans
-pub mod Reading
+pub mod Settled
 pub mod Standing
 pub mod State
+pub mod Taking

@@ -1,118 +1,133 @@
 -- Which orders a core stands for.
-use Rattle.std.specs.Prelude.{◌≡◌, ℕ, List, [], ◌∷◌, length, map, Bool, false, Option, None, Some, IfSome}
-use Rattle.ob_text.specs.declared.held.Snapshot.{Snapshot}
-use Rattle.rpc_peer.specs.Said.{Said, IsId}
-use Rattle.rpc_peer.specs.declared.message.Id.{Id}
-use Rattle.session_build.specs.Outgoing.{outgoing_said}
+use Rattle.std.specs.Prelude.{◌≡◌, ℕ, ℤ, List, [], length, false, Option, None, Some, IfSome}
+use Rattle.std.specs.List.{All}
+use Rattle.bsp_records.specs.Limits.{origin_limit}
+use Rattle.json_shape.specs.Shapes.{IsTextWithin}
+use Rattle.rpc_peer.specs.Said.{IsId}
+use Rattle.session_build.specs.AtWork.{IsAtWork, Rests}
 use Rattle.session_build.specs.Remembering.{IsEmpty, Remembers}
+use Rattle.session_build.specs.declared.building.Build.{Build}
 use Rattle.session_build.specs.declared.kept.Kept.{Kept}
-use Rattle.session_law.specs.Lawful.{Lawful, AreHeld}
-use Rattle.session_law.specs.Order.{Event, write}
-use Rattle.session_law.specs.History.{Told}
-use Rattle.session_law.specs.Methods.{Verdict, due_in}
-use Rattle.session_law.specs.Past.{after}
-use Rattle.session_law.specs.Requests.{Asked, Wants}
 use Rattle.session_core.specs.Judging.{IsPlanIn}
-use Rattle.session_core.specs.Plans.{Plan}
-use Rattle.session_core.specs.State.{Standing, State, state_of, asked_by, needed_paths, handed_of}
-use Rattle.session_core.specs.declared.awaiting.Awaiting.TheVariants as awaits
-use Rattle.target_graph.specs.Workspace.{Space}
-use Rattle.session_core.specs.declared.awaiting.Awaiting.{Awaiting}
-use Rattle.session_core.specs.declared.awaiting.Need.{Need}
+use Rattle.session_core.specs.Plans.{Plan, build_in}
+use Rattle.session_core.specs.State.{plain_of, said_out, waiting_of}
+use Rattle.session_core.specs.declared.head.Head.{Head}
+use Rattle.session_core.specs.declared.head.Phase.{Phase}
+use Rattle.session_core.specs.declared.head.Phase.TheVariants as phases
 use Rattle.session_core.specs.declared.session.Core.{Core}
+use Rattle.session_law.specs.Course.{Given}
+use Rattle.session_law.specs.History.{Told}
+use Rattle.session_law.specs.Lawful.{EachAllowed}
+use Rattle.session_law.specs.Methods.{asking, building}
+use Rattle.session_law.specs.Open.{First, Mid, Open, none, owing, working}
+use Rattle.session_law.specs.Order.{Event, onto}
+use Rattle.session_law.specs.Past.{Now, after}
+use Rattle.session_law.specs.Requests.{Asked}
+use Rattle.task_stream.specs.Showing.{shows}
+use Rattle.target_graph.specs.Workspace.{Space}
 
--- the order once these messages are written too
-abbrev pub onto : List Said → List Event → List Event
-onto [] order = order
-onto (m ∷ messages) order = onto messages (write m ∷ order)
+-- ---- the request at the head
 
--- One request is open, the message of this ordinal. It isn't cancelled, and at the head of the queue it is owed this.
-pub record IsOnly (requests : List Asked) (force : Option Space) (number : ℕ) (id : Id) (v : Verdict) : Type 0 where
-  -- what it was owed as it was taken, or as the tree answered
-  pub judged : Verdict
-  pub are : requests ≡ record { id = id; number = number; verdict = judged; cancelled = false } ∷ []
-  pub stands : due_in force judged ≡ v
-  pub named : IsId id
+-- a build that waits for its documents is of the workspace in force
+pub record IsPlanned (force : Option Space) (head : Head) (plan : Plan) (first : First) : Type 0 where
+  pub space : Space
+  pub in_force : force ≡ Some space
+  pub within : IsPlanIn space plan
+  pub is : first ≡ owing head.id head.number (building (build_in space plan))
 
--- these are open: one that stands so, or none
-abbrev pub AreOpen : List Asked → Option Space → ℕ → Option Standing → Type 0
-AreOpen requests force number None = requests ≡ []
-AreOpen requests force number (Some standing) = IsOnly requests force number standing.id standing.verdict
+-- a build that goes is on some course
+pub record IsWorking (core : Core) (head : Head) (b : Build) (origin : Option (List ℕ)) (now : Now) (first : First) : Type 0 where
+  pub given : Given
+  pub id_is : given.active.id ≡ head.id
+  pub space_is : core.workspace ≡ Some given.active.build.space
+  pub origin_is : given.active.build.origin ≡ origin
+  pub is : first ≡ working given head.cancelled
+  pub at_work : IsAtWork given b now.notices core.kept.keys (shows core.shown)
 
--- the request wants these paths
-abbrev pub WantsOf : Option Standing → List (List ℕ) → Type 0
-WantsOf None paths = ⊥
-WantsOf (Some standing) paths = Wants standing.verdict paths
+abbrev pub PhaseFits : Core → Head → Phase → Now → First → Type 0
+PhaseFits core head (phases.Opening root) now first = (first ≡ owing head.id head.number (asking root)) × (core.workspace ≡ None)
+PhaseFits core head (phases.Planned plan) now first = IsPlanned core.workspace head plan first
+PhaseFits core head (phases.Built b origin) now first = IsWorking core head b origin now first
 
--- what is needed is what the open request wants
-abbrev pub NeedFits : Option Need → Option Space → Option Awaiting → Type 0
-NeedFits need force awaiting = IfSome need (λ n. WantsOf (asked_by force awaiting) (needed_paths n))
+abbrev pub HeadFits : Core → Option Head → Now → First → Type 0
+HeadFits core None now first = first ≡ none
+HeadFits core (Some head) now first = IsId head.id × PhaseFits core head head.phase now first
 
-abbrev pub AreIn : Option Space → Plan → Type 0
-AreIn None plan = ⊥
-AreIn (Some space) plan = IsPlanIn space plan
-
--- A build that waits has its documents, by the workspace in force. An initialize waits where none is in force.
-abbrev pub PlanFits : Option Space → Option Awaiting → Type 0
-PlanFits force None = Unit {0}
-PlanFits force (Some (awaits.Opening id root)) = force ≡ None
-PlanFits force (Some (awaits.Building id plan)) = AreIn force plan
+-- ---- orders
 
 -- the checks that are kept are of the builds that were answered; before a workspace is in force there are none
-abbrev pub RemembersIn : Option Space → List Told → Kept → Type 0
-RemembersIn None builds kept = (builds ≡ []) × IsEmpty kept
-RemembersIn (Some space) builds kept = Remembers space builds kept
+abbrev pub RemembersIn : Option Space → Kept → List Told → Type 0
+RemembersIn None kept builds = (builds ≡ []) × IsEmpty kept
+RemembersIn (Some space) kept builds = Remembers space builds kept
 
--- what a core that found memory so far knows of an order
-pub record Knows (state : State) (order : List Event) : Type 0 where
-  pub force_is : (after order).force ≡ state.base.force
-  pub closed_is : (after order).closed ≡ state.base.closed
-  pub table_is : (after order).table ≡ state.base.table
-  pub status_is : (after order).status ≡ state.status
-  pub taken_is : (after order).taken ≡ state.base.taken
-  -- no body was taken behind that of the request that waits
-  pub requests_are : AreOpen (after order).requests state.base.force state.base.taken (asked_by state.base.force state.awaiting)
-  pub builds_are : RemembersIn state.base.force (after order).builds state.base.kept
-  pub nulls_are : (after order).nulls ≡ []
-  pub need_is : NeedFits state.need state.base.force state.awaiting
-  pub plan_is : PlanFits state.base.force state.awaiting
+abbrev pub Recalls : Core → List Told → Type 0
+Recalls core builds = RemembersIn core.workspace core.kept builds
+
+-- in the middle of a step these are open
+abbrev pub MidOf : Core → Open → List Event → Type 0
+MidOf core o order = Mid (plain_of core) (Recalls core) o (onto (said_out core) order)
+
+-- what is open is what the core keeps, with these requests behind it and these codes
+pub record Whole (core : Core) (last : List Asked) (nulls : List ℤ) (order : List Event) : Type 0 where
+  pub first : First
+  pub fits : HeadFits core core.head (after (onto (said_out core) order)) first
+  pub mid : MidOf core (record { first = first; waiting = waiting_of core; last = last; nulls = nulls }) order
 
 -- A core that found no memory keeps a lawful order, and promises no more of it.
-pub record Keeps (dead : Bool) (state : State) (order : List Event) : Type 0 where
-  pub lawful : Lawful order
-  pub knows : dead ≡ false → Knows state order
+pub record Keeps (core : Core) (order : List Event) : Type 0 where
+  pub each : EachAllowed (onto (said_out core) order)
+  pub whole : core.dead ≡ false → Whole core [] [] order
 
--- The order that the core stands for holds the messages that were written. What the core keeps is
--- true of the order behind those that are still to be written.
 abbrev pub StandsFor : Core → List Event → Type 0
-StandsFor core order = Keeps core.dead (state_of core) (onto (map outgoing_said core.out.items) order)
+StandsFor core order = Keeps core order
+
+-- ---- one step
+
+-- whatever is open goes over into this
+abbrev pub Moves : Core → Core → Open → Open → Type 0
+Moves old new o p = (order : List Event) → MidOf old o order → MidOf new p order
+
+-- Where memory was found the core goes on with what it keeps. Where it wasn't, what is written is allowed.
+abbrev pub Carries : Core → Core → Type 0
+Carries old new = (order : List Event) → Whole old [] [] order → Whole new [] [] order
+
+abbrev pub Loses : Core → Core → Type 0
+Loses old new = (order : List Event) → Whole old [] [] order → EachAllowed (onto (said_out new) order)
+
+-- ---- what is said of a core whatever its order
+
+-- a build at the head rests
+abbrev pub PhaseRests : Phase → Type 0
+PhaseRests (phases.Opening root) = Unit {0}
+PhaseRests (phases.Planned plan) = Unit {0}
+PhaseRests (phases.Built b origin) = Rests b × IfSome origin (IsTextWithin origin_limit)
+
+abbrev pub HeadRests : Option Head → Type 0
+HeadRests None = Unit {0}
+HeadRests (Some head) = IsId head.id × PhaseRests head.phase
 
 -- nothing is left to write
 abbrev pub IsQuiet : Core → Type 0
 IsQuiet core = core.out.items ≡ []
 
--- no request waits for the tree
-abbrev pub IsFree : Core → Type 0
-IsFree core = core.awaiting ≡ None
+-- the head waits for no tree
+abbrev pub IsUpPhase : Phase → Type 0
+IsUpPhase (phases.Opening root) = ⊥
+IsUpPhase (phases.Planned plan) = ⊥
+IsUpPhase (phases.Built b origin) = Unit {0}
 
--- the tree may be asked for these paths, for the request that waits; a build has its documents
-pub record Awaits (core : Core) (paths : List (List ℕ)) : Type 0 where
-  pub wants : WantsOf (asked_by core.workspace core.awaiting) paths
-  pub planned : PlanFits core.workspace core.awaiting
+abbrev pub IsUpHead : Option Head → Type 0
+IsUpHead None = Unit {0}
+IsUpHead (Some head) = IsUpPhase head.phase
 
--- the tree needn't be asked
-abbrev pub NeedsNothing : Core → Type 0
-NeedsNothing core = core.need ≡ None
+-- no request is to be cancelled
+abbrev pub HeadGoesOn : Option Head → Type 0
+HeadGoesOn None = Unit {0}
+HeadGoesOn (Some head) = head.cancelled ≡ false
 
--- where a request waits, the tree is still to be asked
-abbrev pub NeedsWhatItAwaits : Core → Type 0
-NeedsWhatItAwaits core = core.need ≡ None → core.awaiting ≡ None
-
--- the tree was asked for the request that waits, and handed this out
-pub record Suits (core : Core) (got : Option Snapshot) : Type 0 where
-  pub paths : List (List ℕ)
-  pub awaited : Awaits core paths
-  pub held : IfSome (handed_of got) (AreHeld paths)
+pub record GoesOn (core : Core) : Type 0 where
+  pub head : HeadGoesOn core.head
+  pub waiting : All (λ asked. asked.cancelled ≡ false) (waiting_of core)
 
 -- the core found memory so far
 abbrev pub IsAlive : Core → Type 0

@@ -2,13 +2,13 @@ ghost use Rattle.std.specs.Prelude.{◌≡◌, IfOk};
 ghost use Rattle.std.specs.Option.{IfSome};
 ghost use Rattle.json_shape.specs.Shapes.{IsTextWithin};
 ghost use Rattle.bsp_records.specs.Limits.{origin_limit};
+ghost use Rattle.serde_json.specs.Data.{null};
 ghost use Rattle.serde_json.specs.View.{view};
 ghost use Rattle.rpc_peer.specs.Said.{said, result as answers, failure};
-ghost use Rattle.session_law.specs.Builds.{build_said};
+ghost use Rattle.session_law.specs.Builds.{build_said, cancelled_said};
 ghost use Rattle.session_law.specs.IsFramed.{IsFramed};
 ghost use Rattle.session_law.specs.Methods.{capabilities, initialize_result, null_message};
-ghost use Rattle.session_core.specs.Acting.{answer_unread};
-ghost use Rattle.session_core.specs.Judging.{reason_code, reason_text};
+ghost use Rattle.session_core.specs.Judging.{answer_unread, reason_code, reason_text};
 
 use crate::verdicts::Reason;
 use bsp_records::{CompileResult, StatusCode, write_compile_result};
@@ -55,6 +55,23 @@ pub fn compiled(
     Ok(success(id, write_compile_result(alloc, &answer)?))
 }
 
+/// The response to a compile that was sent with this `originId` and is cancelled.
+#[tactic(auto, unfolding(session_law::specs::Builds::cancelled_said))]
+pub fn cancelled(alloc: Global, id: Id, origin: &Option<Text>) -> Result<Message, NoMemory>
+    requires { IfSome origin.now (IsTextWithin origin_limit) }
+    ensures { IfOk result (λ m. said m ≡ cancelled_said id origin.now) }
+{
+    let origin_id = match origin {
+        Some(text) => Some(text.copy(alloc)?),
+        None => None,
+    };
+    let answer = CompileResult {
+        origin_id,
+        status_code: StatusCode::Cancelled,
+    };
+    Ok(success(id, write_compile_result(alloc, &answer)?))
+}
+
 /// The response to what couldn't be read, with this code.
 pub fn unread_answer(alloc: Global, code: i32) -> Result<Message, NoMemory>
     ensures answer { IfOk result (λ m. said m ≡ answer_unread code) }
@@ -73,6 +90,13 @@ fn unread_message(code: i32) -> &'static [u8]
     } else {
         b"invalid request"
     }
+}
+
+/// The response to a shutdown that closes the session.
+pub fn closing(id: Id) -> Message
+    ensures { said result ≡ answers (Some id) null }
+{
+    success(id, Value::Null)
 }
 
 /// The response that gives a request this result.

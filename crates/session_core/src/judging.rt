@@ -12,6 +12,7 @@ ghost use Rattle.session_core.specs.Judging.{Judges, Fits, IsFoundAs, IsSaid, Is
 ghost use Rattle.target_graph.specs.Address.{root_at};
 ghost use Rattle.target_graph.specs.Workspace.{named};
 
+use crate::force::InForce;
 use crate::planned::Planned;
 use crate::verdicts::{Answer, Owed, Queued, Reason, TakenUp};
 use bsp_records::{
@@ -30,7 +31,7 @@ pub fn judge(
     alloc: Global,
     name: &[u8],
     params: Option<Value>,
-    workspace: &Option<Workspace>,
+    workspace: &Option<InForce>,
     closed: bool,
 ) -> Result<Owed, NoMemory>
     ensures judged { IfOk result (Judges workspace.now
@@ -44,7 +45,7 @@ fn judge_method(
     alloc: Global,
     method: Option<Method>,
     params: Option<Value>,
-    workspace: &Option<Workspace>,
+    workspace: &Option<InForce>,
     closed: bool,
 ) -> Result<Owed, NoMemory>
     ensures judged { IfOk result (Judges workspace.now
@@ -60,7 +61,7 @@ fn judge_method(
     } else {
         match workspace {
             None => Ok(refused(Reason::ServerNotInitialized)),
-            Some(workspace) => judge_served(alloc, method, params, workspace, closed),
+            Some(workspace) => judge_served(alloc, method, params, workspace.get(), closed),
         }
     }
 }
@@ -218,7 +219,7 @@ fn judge_sources(
 pub fn take_up(
     alloc: Global,
     call: Queued,
-    workspace: &Option<Workspace>,
+    workspace: &Option<InForce>,
 ) -> Result<TakenUp, NoMemory>
     requires texts { HasQueuedTexts call }
     requires begun { IsSome workspace.now }
@@ -227,7 +228,7 @@ pub fn take_up(
 {
     match workspace {
         Some(workspace) => match call {
-            Queued::Build(params) => plan_build(alloc, params, workspace),
+            Queued::Build(params) => plan_build(alloc, params, workspace.get()),
         },
         None => unreachable!(),
     }

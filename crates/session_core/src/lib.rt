@@ -6,13 +6,25 @@
 //! and no stream. Begin with `Core` (`session.rt`) and what it promises (`specs/Standing.antt`).
 #![tactic(auto)]
 
+mod acting;
 mod answers;
-mod awaiting;
+mod building;
+mod force;
+mod handing;
+mod head;
+mod heeding;
+mod jobs;
 mod judging;
+mod marking;
+mod needs;
+mod opening;
 mod planned;
 mod reasons;
+mod serving;
 mod session;
+mod steps;
+mod taking;
 mod verdicts;
 
-pub use awaiting::Need;
+pub use needs::Need;
 pub use session::Core;

@@ -55,6 +55,19 @@ impl Planned {
         self.documents.as_slice()
     }
 
+    /// What it is made of: the targets, the `originId` and the documents. Takes no memory.
+    pub fn into_parts(self) -> (Items<u32>, Option<Text>, Items<BuildDocument>)
+        ensures parts { self ≡ record { asked = result.0; origin = result.1; documents = result.2 } }
+        ensures short { IfSome result.1 (IsTextWithin origin_limit) }
+    {
+        let Planned {
+            asked,
+            origin,
+            documents,
+        } = self;
+        (asked, origin, documents)
+    }
+
     pub fn origin(&self) -> &Option<Text>
         ensures origin { result.now ≡ self.now.origin }
         ensures short { IfSome result.now (IsTextWithin origin_limit) }

@@ -21,6 +21,20 @@ pub enum Queued {
     Build(CompileParams),
 }
 
+impl Queued {
+    ghost use Rattle.std.specs.Prelude.{◌≡◌};
+    ghost use Rattle.session_core.specs.Judging.{queued_origin};
+
+    /// The `originId` that was sent with it.
+    pub fn origin(&self) -> &Option<Text>
+        ensures { result.now ≡ queued_origin self.now }
+    {
+        match self {
+            Queued::Build(params) => &params.origin_id,
+        }
+    }
+}
+
 /// What a request of the queue is owed once it is taken up.
 #[derive(Drop)]
 pub enum TakenUp {
@@ -41,6 +55,21 @@ pub enum Answer {
     Closing,
     /// It is refused.
     Refused(Reason),
+}
+
+impl Answer {
+    ghost use Rattle.std.specs.Prelude.{◌≡◌};
+    ghost use Rattle.session_core.specs.Judging.{closes};
+
+    /// Is it a shutdown that closes the session?
+    pub fn is_closing(&self) -> bool
+        ensures { result ≡ closes self.now }
+    {
+        match self {
+            Answer::Closing => true,
+            Answer::Result(_) | Answer::Opening(_) | Answer::Refused(_) => false,
+        }
+    }
 }
 
 /// Why a request is refused.

@@ -128,7 +128,7 @@ finished_either g s messages own finding j i before p one differ once runs there
     (subst (λ q. slice_get s.begun before ≡ Some q) (sym same) at) (subst (λ q. IsBegun g messages before q) (sym same) begun))
 
 -- what is true if it was there before, where the last one wasn't
-if_earlier : {A B : Type 0} → ¬ B → A ⊎ B → A
+pub if_earlier : {A B : Type 0} → ¬ B → A ⊎ B → A
 if_earlier other (inl a) = a
 if_earlier other (inr b) = absurd (other b)
 
@@ -161,7 +161,7 @@ pub record IsStarted (g : Given) (begun : List ℕ) (i : ℕ) (address : List �
   pub of_target : IsTaskOf g.active document.key.target i
 
 -- publications are no starts
-no_publication : (messages : List Said) (n j i : ℕ) (address : List ℕ) → All IsPublication messages → ¬ (Contains messages (check_starts n j i address))
+pub no_publication : (messages : List Said) (n j i : ℕ) (address : List ℕ) → All IsPublication messages → ¬ (Contains messages (check_starts n j i address))
 no_publication messages n j i address all there =
     false≢true
     (sym (start_tells (record { task_id = task_id n (checking j i); message = Some address; body = None })).no_publication
@@ -172,7 +172,7 @@ no_finish : (n k l : ℕ) (failed : Bool) (j i : ℕ) (address : List ℕ) → c
 no_finish n k l failed j i address same =
     none-some (address, compiling_name n i) (sym (check_finishes_in n k l (build_status failed)).0 ∙ (ap start_in same ∙ (check_starts_in n j i address).0))
 
-no_finish_list : (n k l : ℕ) (failed : Bool) (own : List Said) (j i : ℕ) (address : List ℕ) → All IsPublication own
+pub no_finish_list : (n k l : ℕ) (failed : Bool) (own : List Said) (j i : ℕ) (address : List ℕ) → All IsPublication own
     → ¬ (Contains (check_finishes n k l (build_status failed) ∷ own) (check_starts n j i address))
 no_finish_list n k l failed own j i address all there =
     by (contains_cases (check_finishes n k l (build_status failed)) own (check_starts n j i address) there)

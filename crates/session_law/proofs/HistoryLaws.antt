@@ -72,7 +72,7 @@ checked_still g messages more key checked = record {
   finished = Contains-append_left messages more (check_finishes g.active.number checked.j checked.i (build_status checked.failed)) checked.finished;
 }
 
-told_checked : (g : Given) (messages : List Said) (document : BuildDocument) (before : ℕ) → OnePair g.documents → Contains g.documents document
+pub told_checked : (g : Given) (messages : List Said) (document : BuildDocument) (before : ℕ) → OnePair g.documents → Contains g.documents document
     → IsFinished g messages before document.pair → HasChecked (told_by g messages) document.key
 told_checked g messages document before one there told =
     let same : told.begun.document ≡ document = one told.begun.document document told.begun.there there told.begun.pair_is in
@@ -94,7 +94,7 @@ has_checked {g} ended document one differ there begun =
     (told_checked g ended.settling document begun.0 one there
     (checked_told ended.course one differ begun.0 document.pair (place_of ended.stage.begun document.pair begun) (ended.all_settled document there))))
 
-key_same : (a b : TableKey) → a.document ≡ b.document → a.target ≡ b.target → a ≡ b
+pub key_same : (a b : TableKey) → a.document ≡ b.document → a.target ≡ b.target → a ≡ b
 key_same a b document target = (λ i. record { document = document i; target = target i })
 
 -- a check that started is of one of the documents whose checks started

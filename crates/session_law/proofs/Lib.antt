@@ -10,3 +10,14 @@ pub mod CourseLaws
 pub mod HistoryLaws
 pub mod EndLaws
 pub mod DueLaws
+pub mod CancelLaws
+pub mod BareLaws
+pub mod RequestLaws
+pub mod WriteLaws
+pub mod WrittenLaws
+pub mod OpenLaws
+pub mod MoveLaws
+pub mod WorkLaws
+pub mod TakeLaws
+pub mod CoursePublishes
+pub mod MidLaws

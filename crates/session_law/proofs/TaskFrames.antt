@@ -25,7 +25,7 @@ use Rattle.serde_json.specs.Data.{Data, boolean, string}
 use Rattle.serde_json.specs.Written.{compact_text, has_float}
 use Rattle.session_law.proofs.NoticeLaws.{framed_notice, params_limit}
 use Rattle.session_law.specs.IsFramed.{IsFramed}
-use Rattle.session_law.specs.Tasks.{Task, whole, compiling, checking, task_id, whole_name, compiling_name, checking_name, start_said, finish_said, build_starts, target_starts, check_starts, check_finishes, target_finishes, build_finishes, report_status}
+use Rattle.session_law.specs.Tasks.{Task, whole, compiling, checking, task_id, whole_name, compiling_name, checking_name, start_said, finish_said, build_starts, target_starts, check_starts, check_finishes, target_cancelled, target_finishes, build_finishes, report_status}
 
 through : {a b c : ℕ} → a ≤ b → b ≤ c → a ≤ c
 through h k = omega arith
@@ -187,3 +187,8 @@ framed_target_finishes n i report address within =
 pub framed_build_finishes : (n : ℕ) (status : StatusCode) → IsFramed (build_finishes n status)
 framed_build_finishes n status =
     framed_finish _ refl (finish_short (task_id_data (task_id n whole)) status None None (task_id_short n whole) (lit≤ tt) (lit≤ tt))
+
+pub framed_target_cancelled : (n i : ℕ) → IsFramed (target_cancelled n i)
+framed_target_cancelled n i =
+    framed_finish _ refl
+    (finish_short (task_id_data (task_id n (compiling i))) statuses.Cancelled None None (task_id_short n (compiling i)) (lit≤ tt) (lit≤ tt))

@@ -19,13 +19,13 @@ use Rattle.serde_json.specs.Find.{get, as_str}
 use Rattle.session_law.specs.Builds.{is_publication, publication_in, publication_said, shown_by, table_behind}
 use Rattle.session_law.specs.IsFramed.{IsOfServer}
 use Rattle.session_law.specs.Methods.{is_named}
-use Rattle.session_law.specs.Tasks.{start_said, finish_said, whole_name, compiling_name, checking_name, build_starts, target_starts, check_starts, check_finishes, target_finishes, build_finishes}
+use Rattle.session_law.specs.Tasks.{start_said, finish_said, whole_name, compiling_name, checking_name, build_starts, target_starts, check_starts, check_finishes, target_cancelled, target_finishes, build_finishes}
 use Rattle.session_law.specs.TasksInOrder.{is_of_task}
 
 -- ---- what a message tells
 
 -- the params of a notification with this name
-abbrev params_named : List ℕ → Said → Option Data
+abbrev pub params_named : List ℕ → Said → Option Data
 params_named name (notification method params) = if is_named name method then params else None
 params_named name (request id method params) = None
 params_named name (result id value) = None
@@ -63,6 +63,10 @@ finish_of params =
 abbrev pub finish_in : Said → Option (List ℕ)
 finish_in m = option_and_then finish_of (params_named (codes "build/taskFinish") m)
 
+-- the id of the task that starts
+abbrev pub start_name_in : Said → Option (List ℕ)
+start_name_in m = option_and_then (λ params. text_at (codes "id") (at (codes "taskId") params)) (params_named (codes "build/taskStart") m)
+
 -- ---- the six messages, and a publication
 
 pub build_starts_in : (n : ℕ) → (start_in (build_starts n) ≡ None) × (finish_in (build_starts n) ≡ None)
@@ -87,6 +91,14 @@ pub target_finishes_in : (n i : ℕ) (report : CompileReport) → (start_in (tar
 unfolding finish_said
 target_finishes_in n i report = (refl, refl)
 
+check_start_name_in : (n j i : ℕ) (document : List ℕ) → start_name_in (check_starts n j i document) ≡ Some (checking_name n j)
+unfolding start_said
+check_start_name_in n j i document = refl
+
+pub target_starts_none : (n i : ℕ) → start_in (target_cancelled n i) ≡ None
+unfolding finish_said
+target_starts_none n i = refl
+
 pub build_finishes_in : (n : ℕ) (status : StatusCode) → (start_in (build_finishes n status) ≡ None) × (finish_in (build_finishes n status) ≡ None)
 unfolding finish_said
 build_finishes_in n status = (refl, refl)
@@ -102,6 +114,12 @@ same_starts n j i n' j' i' document document' same =
     let told = same_Some (document, compiling_name n i) (document', compiling_name n' i')
     (sym (check_starts_in n j i document).0 ∙ (ap start_in same ∙ (check_starts_in n' j' i' document').0)) in
     (ap (λ (p : List ℕ × List ℕ). p.0) told, ap (λ (p : List ℕ × List ℕ). p.1) told)
+
+pub same_start_names : (n j i n' j' i' : ℕ) (document document' : List ℕ) → check_starts n j i document ≡ check_starts n' j' i' document'
+    → checking_name n j ≡ checking_name n' j'
+same_start_names n j i n' j' i' document document' same =
+    same_Some (checking_name n j) (checking_name n' j')
+    (sym (check_start_name_in n j i document) ∙ (ap start_name_in same ∙ check_start_name_in n' j' i' document'))
 
 pub same_finishes : (n j i n' j' i' : ℕ) (status status' : StatusCode) → check_finishes n j i status ≡ check_finishes n' j' i' status'
     → checking_name n j ≡ checking_name n' j'

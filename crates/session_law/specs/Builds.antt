@@ -81,6 +81,13 @@ pub record Finding : Type 0 where
 abbrev pub IsFound : World → Finding → Type 0
 IsFound w finding = HasList w finding.document.pair finding.list
 
+-- one of the documents of the build, with its diagnostics
+pub record IsFindingOf (build : Build) (entries : Entries) (finding : Finding) : Type 0 where
+  pub documents : List BuildDocument
+  pub of_build : AreDocuments build documents
+  pub there : Contains documents finding.document
+  pub found : IsFound (world_of build.space entries) finding
+
 -- each document of the build with its diagnostics, in order
 pub record CleanBuild (build : Build) (entries : Entries) (findings : List Finding) : Type 0 where
   pub documents : AreDocuments build (map (λ finding. finding.document) findings)
@@ -100,6 +107,10 @@ build_status failed = if failed then statuses.Error else statuses.Ok
 -- the response to a compile with this `originId`
 unfoldable pub build_said : Id → Option (List ℕ) → Bool → Said
 build_said id origin failed = result (Some id) (compile_result_data (record { origin_id = origin; status_code = build_status failed }))
+
+-- the response to one that is cancelled
+unfoldable pub cancelled_said : Id → Option (List ℕ) → Said
+cancelled_said id origin = result (Some id) (compile_result_data (record { origin_id = origin; status_code = statuses.Cancelled }))
 
 abbrev pub build_answer : Id → Build → List Finding → Said
 build_answer id build findings = build_said id build.origin (list_any has_error findings)

@@ -1,30 +1,45 @@
 -- What makes an order lawful: the sentences, listed for each kind of event. Each is judged at an event, from what the
 -- session is before it.
-use Rattle.std.specs.Prelude.{◌≡◌, ℕ, List, [], ◌∷◌, map, Option, None, IfSome}
+use Rattle.std.specs.Prelude.{◌≡◌, ℕ, List, [], ◌∷◌, map, Option, Some, None, IfSome}
 use Rattle.std.specs.List.{All}
 use Rattle.ob_text.specs.Held.{Entries, IsReadable}
 use Rattle.rpc_peer.specs.Said.{Said}
 use Rattle.session_law.specs.AnswersAtOnce.{IsCaughtUp}
 use Rattle.session_law.specs.AnswersOnce.{AnswersOnce}
+use Rattle.session_law.specs.CancelsForCause.{CancelsForCause}
 use Rattle.session_law.specs.IsFramed.{IsFramed}
 use Rattle.session_law.specs.Order.{Event, take, ends, hand, write}
 use Rattle.session_law.specs.Past.{Now, after, standing}
 use Rattle.session_law.specs.PublishesInBuildsOnly.{PublishesInBuildsOnly}
 use Rattle.session_law.specs.RefusesExactly.{RefusesExactly}
-use Rattle.session_law.specs.Requests.{WantedBy}
+use Rattle.session_law.specs.Requests.{Asked, WantedBy, first_marked}
 use Rattle.session_law.specs.ShowsCleanBuild.{ShowsCleanBuild}
+use Rattle.session_law.specs.ShowsOldOrNew.{ShowsOldOrNew}
 use Rattle.session_law.specs.TakesUpInOrder.{TakesUpInOrder}
 use Rattle.session_law.specs.TasksInOrder.{TasksInOrder}
 use Rattle.session_law.specs.declared.InputEnd.{InputEnd}
 
+-- where no request is to be cancelled
+pub record GoesOn (now : Now) (m : Said) : Type 0 where
+  pub exact : RefusesExactly now m
+  pub in_order : TakesUpInOrder now m
+  pub shows : ShowsCleanBuild now m
+  pub tasks : TasksInOrder now m
+
+-- where this request is the first that is to be cancelled
+pub record Cancels (asked : Asked) (now : Now) (m : Said) : Type 0 where
+  pub for_cause : CancelsForCause asked now m
+  pub old_or_new : ShowsOldOrNew now m
+
+abbrev pub GoesOnOrCancels : Option Asked → Now → Said → Type 0
+GoesOnOrCancels None now m = GoesOn now m
+GoesOnOrCancels (Some asked) now m = Cancels asked now m
+
 pub record WriteAllowed (now : Now) (m : Said) : Type 0 where
   pub framed : IsFramed m
   pub once : AnswersOnce now m
-  pub exact : RefusesExactly now m
-  pub in_order : TakesUpInOrder now m
   pub in_builds : PublishesInBuildsOnly now m
-  pub shows : ShowsCleanBuild now m
-  pub tasks : TasksInOrder now m
+  pub by_marks : GoesOnOrCancels (first_marked now.requests) now m
 
 -- A body is taken once what was taken before it is answered as far as it is owed at once, and none behind the
 -- session's end.

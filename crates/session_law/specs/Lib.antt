@@ -2,12 +2,15 @@ pub mod AnswersAll
 pub mod AnswersAtOnce
 pub mod AnswersOnce
 pub mod Builds
+pub mod Cancelling
+pub mod CancelsForCause
 pub mod Course
 pub mod History
 pub mod If
 pub mod IsFramed
 pub mod Lawful
 pub mod Methods
+pub mod Open
 pub mod Order
 pub mod Past
 pub mod PublishesInBuildsOnly
@@ -15,6 +18,8 @@ pub mod Questions
 pub mod RefusesExactly
 pub mod Requests
 pub mod ShowsCleanBuild
+pub mod ShowsOldOrNew
 pub mod TakesUpInOrder
 pub mod Tasks
 pub mod TasksInOrder
+pub mod Verdicts

@@ -83,6 +83,11 @@ marked_where cancels (asked ∷ others) = marked_if (cancels asked) asked ∷ ma
 abbrev pub all_marked : List Asked → List Asked
 all_marked requests = marked_where (λ asked. true) requests
 
+-- the first request that is to be cancelled
+abbrev pub first_marked : List Asked → Option Asked
+first_marked [] = None
+first_marked (asked ∷ others) = if asked.cancelled then Some asked else first_marked others
+
 abbrev pub has_this_id : Option Id → Asked → Bool
 has_this_id None asked = false
 has_this_id (Some id) asked = same_id id asked.id

@@ -1,21 +1,19 @@
 -- ShowsCleanBuild: what a build publishes is what the clean build finds, each list whole, at most once, and only where
 -- the client showed another. As the build is answered, the client shows the list of each of its documents.
-use Rattle.std.specs.Prelude.{◌≡◌, ◌++◌, Contains, List, ◌∷◌, filter, Option, Some}
+use Rattle.std.specs.Prelude.{◌≡◌, ◌++◌, List, ◌∷◌, filter, Option, Some}
 use Rattle.std.specs.List.{All}
 use Rattle.bsp_records.specs.Table.{Table}
 use Rattle.rpc_peer.specs.OpenIds.{same_id}
 use Rattle.rpc_peer.specs.Said.{Said, notification, result}
-use Rattle.session_law.specs.Builds.{Finding, CleanBuild, PublishesSome, Shows, is_publication}
+use Rattle.session_law.specs.Builds.{Finding, CleanBuild, IsFindingOf, PublishesSome, Shows, is_publication}
 use Rattle.session_law.specs.If.{If}
 use Rattle.session_law.specs.Past.{Now}
 use Rattle.session_law.specs.Requests.{Active, active_of}
 
 -- the message is the next piece of what the build publishes, in some order of its documents
 pub record PublishesNext (active : Active) (now : Now) (m : Said) : Type 0 where
-  pub findings : List Finding
-  pub clean : CleanBuild active.build active.entries findings
   pub done : List Finding
-  pub among : All (Contains findings) done
+  pub each : All (IsFindingOf active.build active.entries) done
   pub published : List Said
   pub publishes : PublishesSome now.table_at_hand active.build.origin done published
   pub rest : List Said

@@ -70,3 +70,7 @@ target_finishes n i report =
 
 abbrev pub build_finishes : ℕ → StatusCode → Said
 build_finishes n status = finish_said (record { task_id = task_id n whole; status = status; body = None })
+
+-- a target whose build is cancelled finishes without a report
+abbrev pub target_cancelled : ℕ → ℕ → Said
+target_cancelled n i = finish_said (record { task_id = task_id n (compiling i); status = statuses.Cancelled; body = None })

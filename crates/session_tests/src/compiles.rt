@@ -1,6 +1,8 @@
+use crate::cancels::{ROW, Row, expect_row};
 use crate::runs::{
-    CLOSED, Files, INITIALIZED, Parts, add_frame, expect_answers, expect_whole, session_of, tree,
+    CLOSED, Files, INITIALIZED, Parts, expect_answers, expect_whole, session_of, tree,
 };
+use crate::sent::add_frame;
 use crate::told::add_told;
 use std::alloc::Global;
 use std::test::Fail;
@@ -220,4 +222,38 @@ fn publishes_a_long_list_in_pieces(rt: HostRuntime) -> Result<(), Fail> {
     let session = session_of(rt.alloc(), &[COMPILE_2])?;
     let output = told_in_pieces(rt.alloc())?;
     expect_whole(&rt, &mut tree, session, 0, output.as_slice())
+}
+
+/// A build that is cancelled before its check shows no piece of the list.
+#[test]
+fn publishes_nothing_of_a_check_that_was_not_done(rt: HostRuntime) -> Result<(), Fail> {
+    let text = bad_characters(rt.alloc())?;
+    let files: [(&[u8], &[u8]); 2] = [FILE_OF_APP, (b"A.Mod", text.as_slice())];
+    expect_row(
+        &rt,
+        &Row {
+            files: &files,
+            sent: "
+initialize
+compile 2 app
+cut
+cancel 2
+wait
+shutdown 3
+exit
+",
+            told: "
+initialized
+start r2
+start r2.t1 app
+start r2.c1 r2.t1 A.Mod
+finish r2.c1 r2.t1 3
+finish r2.t1 r2 3
+finish r2 3
+result 2 3
+null 3
+",
+            ..ROW
+        },
+    )
 }

@@ -2,12 +2,14 @@ use crate::runs::{
     CLOSED, EXIT, Fails, INITIALIZE, INITIALIZED, NOTHING_FAILS, Parts, Row, SHUTDOWN, WORKSPACE,
     WORKSPACE_ALONE, expect, expect_over, expect_whole, file, framed, joined, plain, tree,
 };
+use crate::sent::Sent;
 use bsp_cli::{Ended, Status, read_words, run_words};
 use bsp_edge::{MemSink, MemSource};
 use ob_text::{NoMemory, Text};
 use std::alloc::Global;
 use std::process::Abort;
 use std::test::Fail;
+use worker_pool::InlineCrew;
 
 const PARSE_ERROR: &[u8] =
     b"Content-Length: 75\r\n\r\n{\"error\":{\"code\":-32700,\"message\":\"parse error\"},\"id\":null,\"jsonrpc\":\"2.0\"}";
@@ -159,7 +161,7 @@ fn early_and_late_answers(alloc: Global) -> Result<Vec<u8>, Fail> {
 fn judges_before_and_behind_the_session(rt: HostRuntime) -> Result<(), Fail> {
     let output = early_and_late_answers(rt.alloc())?;
     let mut tree = tree(rt.alloc(), WORKSPACE_ALONE, &[], &[])?;
-    let session = early_and_late(rt.alloc())?;
+    let session = Sent::whole(rt.alloc(), early_and_late(rt.alloc())?);
     expect_whole(&rt, &mut tree, session, 0, output.as_slice())
 }
 
@@ -196,7 +198,7 @@ fn with_body(alloc: Global, front: &[u8], body: &[u8]) -> Result<Vec<u8>, Fail> 
 fn expect_judged(rt: &(impl Abort + AllocGlobal), body: &[u8], answer: &[u8]) -> Result<(), Fail> {
     let output = with_body(rt.alloc(), INITIALIZED, answer)?;
     let mut tree = tree(rt.alloc(), WORKSPACE_ALONE, &[], &[])?;
-    let session = with_body(rt.alloc(), INITIALIZE, body)?;
+    let session = Sent::whole(rt.alloc(), with_body(rt.alloc(), INITIALIZE, body)?);
     expect_whole(rt, &mut tree, session, 1, output.as_slice())
 }
 
@@ -226,7 +228,7 @@ fn largest_session(alloc: Global) -> Result<Vec<u8>, Fail> {
 fn largest_frame(rt: HostRuntime) -> Result<(), Fail> {
     let output = joined(rt.alloc(), &[INITIALIZED, CLOSED])?;
     let mut tree = tree(rt.alloc(), WORKSPACE_ALONE, &[], &[])?;
-    let session = largest_session(rt.alloc())?;
+    let session = Sent::whole(rt.alloc(), largest_session(rt.alloc())?);
     expect_whole(&rt, &mut tree, session, 0, output.as_slice())
 }
 
@@ -422,7 +424,16 @@ fn run_of(alloc: Global, words: Parts) -> Result<(Ended, MemSink, usize), Fail> 
         Vec::new(alloc),
     );
     let asked = read_words(words.as_slice());
-    let ended = run_words(alloc, asked, &mut input, &mut tree, &mut output, &mut notes);
+    let mut crew = InlineCrew::new(alloc);
+    let ended = run_words(
+        alloc,
+        asked,
+        &mut input,
+        &mut tree,
+        &mut output,
+        &mut notes,
+        &mut crew,
+    );
     Ok((ended, notes, tree.handed().len()))
 }
 

@@ -1,9 +1,13 @@
+ghost use Rattle.worker_pool.specs.Crews.{IsFresh};
+
+use crate::sent::{Sent, add_frame};
 use bsp_cli::{Ended, read_words, run_words};
 use bsp_edge::{MemSink, MemSource, MemTree, Sink, Source, Tree};
 use ob_text::{Held, Items, Path, Snapshot, Text};
 use std::alloc::Global;
 use std::process::Abort;
 use std::test::Fail;
+use worker_pool::{Crew, InlineCrew};
 
 pub const INITIALIZE: &[u8] =
     b"Content-Length: 180\r\n\r\n{\"jsonrpc\":\"2.0\",\"id\":1,\"method\":\"build/initialize\",\"params\":{\"displayName\":\"t\",\"version\":\"1\",\"bspVersion\":\"2.2.0\",\"rootUri\":\"file:///w\",\"capabilities\":{\"languageIds\":[\"oberon\"]}}}";
@@ -93,13 +97,6 @@ pub fn framed(alloc: Global, bodies: &[&[u8]]) -> Result<Vec<u8>, Fail> {
     Ok(bytes)
 }
 
-pub fn add_frame(alloc: Global, body: &[u8], bytes: &mut Vec<u8>) -> Result<(), Fail> {
-    let head = format!(in alloc; "Content-Length: {}\r\n\r\n", body.len())?;
-    bytes.extend_from_slice(head.as_bytes())?;
-    bytes.extend_from_slice(body)?;
-    Ok(())
-}
-
 pub fn file(alloc: Global, path: &[u8], text: &[u8]) -> Result<(Path, Held), Fail> {
     let path = Path::new(alloc, path)?;
     Ok((path, Held::Text(Text::new(alloc, text)?)))
@@ -136,41 +133,48 @@ pub fn tree(
     Ok(MemTree::new(alloc, files, later, Vec::from_slice(alloc, failing)?))
 }
 
-/// A source of these bytes in pieces.
-fn source(alloc: Global, bytes: Vec<u8>, cuts: &[u64], failing: &[u64]) -> Result<MemSource, Fail> {
-    let cuts = Vec::from_slice(alloc, cuts)?;
+fn source(alloc: Global, sent: Sent, failing: &[u64]) -> Result<MemSource, Fail> {
     let failing = Vec::from_slice(alloc, failing)?;
-    Ok(MemSource::new(bytes, cuts, Vec::new(alloc), failing))
+    let Sent { bytes, cuts, quiet } = sent;
+    Ok(MemSource::new(bytes, cuts, quiet, failing))
 }
 
 fn sink(alloc: Global, failing: &[u64]) -> Result<MemSink, Fail> {
     let failing = Vec::from_slice(alloc, failing)?;
-    Ok(MemSink::new(alloc, 65_536, failing)?)
+    Ok(MemSink::new(alloc, 262_144, failing)?)
 }
 
-fn serve<S: Source, T: Tree, K: Sink>(
+fn serve<S: Source, T: Tree, K: Sink, C: Crew>(
     alloc: Global,
     input: &mut S,
     tree: &mut T,
     output: &mut K,
     notes: &mut K,
-) -> Result<Ended, Fail> {
+    crew: &mut C,
+) -> Result<Ended, Fail>
+    requires { IsFresh (C.sight crew.old) }
+{
     let mut words = Vec::new(alloc);
     words.push(Text::new(alloc, b"serve")?)?;
     words.push(Text::new(alloc, b"w")?)?;
     let asked = read_words(words.as_slice());
-    Ok(run_words(alloc, asked, input, tree, output, notes))
+    Ok(run_words(alloc, asked, input, tree, output, notes, crew))
 }
 
-fn run_from(
+/// Runs `serve` over what is sent, by a crew that was given no job.
+pub fn run_by<C: Crew>(
     alloc: Global,
-    input: &mut MemSource,
-    tree: &mut MemTree,
+    sent: Sent,
     fails: Fails,
-) -> Result<Left, Fail> {
+    tree: &mut MemTree,
+    crew: &mut C,
+) -> Result<Left, Fail>
+    requires { IsFresh (C.sight crew.old) }
+{
+    let mut input = source(alloc, sent, fails.input)?;
     let mut output = sink(alloc, fails.output)?;
     let mut notes = sink(alloc, fails.notes)?;
-    let ended = serve(alloc, input, tree, &mut output, &mut notes)?;
+    let ended = serve(alloc, &mut input, tree, &mut output, &mut notes, crew)?;
     Ok(Left {
         ended,
         output,
@@ -178,15 +182,10 @@ fn run_from(
     })
 }
 
-fn run(
-    alloc: Global,
-    bytes: Vec<u8>,
-    cuts: &[u64],
-    fails: Fails,
-    tree: &mut MemTree,
-) -> Result<Left, Fail> {
-    let mut input = source(alloc, bytes, cuts, fails.input)?;
-    run_from(alloc, &mut input, tree, fails)
+/// The same by the crew that the program has.
+pub fn run(alloc: Global, sent: Sent, fails: Fails, tree: &mut MemTree) -> Result<Left, Fail> {
+    let mut crew = InlineCrew::new(alloc);
+    run_by(alloc, sent, fails, tree, &mut crew)
 }
 
 fn expect_end(rt: &impl Abort, left: &Left, status: u8, taken: u64, notes: &[u8]) {
@@ -195,7 +194,15 @@ fn expect_end(rt: &impl Abort, left: &Left, status: u8, taken: u64, notes: &[u8]
     assert!(rt; left.notes.given() == notes, "other notes");
 }
 
-fn expect_left(rt: &impl Abort, left: &Left, status: u8, taken: u64, output: &[u8], notes: &[u8]) {
+/// Looks at all that a run left.
+pub fn expect_left(
+    rt: &impl Abort,
+    left: &Left,
+    status: u8,
+    taken: u64,
+    output: &[u8],
+    notes: &[u8],
+) {
     expect_end(rt, left, status, taken, notes);
     assert!(rt; left.output.given() == output, "other output");
 }
@@ -207,8 +214,9 @@ pub fn expect_over(
     tree: &mut MemTree,
 ) -> Result<(), Fail> {
     let output = joined(rt.alloc(), row.output)?;
-    let bytes = joined(rt.alloc(), row.sent)?;
-    let left = run(rt.alloc(), bytes, row.cuts, row.fails, tree)?;
+    let mut sent = Sent::whole(rt.alloc(), joined(rt.alloc(), row.sent)?);
+    sent.cuts.extend_from_slice(row.cuts)?;
+    let left = run(rt.alloc(), sent, row.fails, tree)?;
     expect_left(
         rt,
         &left,
@@ -230,12 +238,12 @@ pub fn expect(rt: &(impl Abort + AllocGlobal), row: &Row) -> Result<(), Fail> {
 pub fn expect_whole(
     rt: &(impl Abort + AllocGlobal),
     tree: &mut MemTree,
-    session: Vec<u8>,
+    session: Sent,
     status: u8,
     output: &[u8],
 ) -> Result<(), Fail> {
-    let taken = session.len() as u64;
-    let left = run(rt.alloc(), session, &[], NOTHING_FAILS, tree)?;
+    let taken = session.bytes.len() as u64;
+    let left = run(rt.alloc(), session, NOTHING_FAILS, tree)?;
     expect_left(rt, &left, status, taken, output, b"");
     Ok(())
 }
@@ -261,21 +269,28 @@ fn without_tasks(alloc: Global, output: &[u8]) -> Result<String, Fail> {
 pub fn expect_shown(
     rt: &(impl Abort + AllocGlobal),
     tree: &mut MemTree,
-    session: Vec<u8>,
+    session: Sent,
     output: &[u8],
 ) -> Result<(), Fail> {
-    let taken = session.len() as u64;
-    let left = run(rt.alloc(), session, &[], NOTHING_FAILS, tree)?;
+    let taken = session.bytes.len() as u64;
+    let left = run(rt.alloc(), session, NOTHING_FAILS, tree)?;
     expect_end(rt, &left, 0, taken, b"");
     let shown = without_tasks(rt.alloc(), left.output.given())?;
     assert!(rt; shown.as_bytes() == output, "other output");
     Ok(())
 }
 
-/// A session that is opened, sends these requests and is closed.
-pub fn session_of(alloc: Global, requests: &[&[u8]]) -> Result<Vec<u8>, Fail> {
-    let sent = framed(alloc, requests)?;
-    joined(alloc, &[INITIALIZE, sent.as_slice(), SHUTDOWN, EXIT])
+/// A session that is opened, sends these requests, each when those before are answered, and is closed.
+pub fn session_of(alloc: Global, requests: &[&[u8]]) -> Result<Sent, Fail> {
+    let mut sent = Sent::new(alloc);
+    sent.add(INITIALIZE)?;
+    for request in requests {
+        sent.add_body(alloc, request)?;
+        sent.wait_for_all()?;
+    }
+    sent.add(SHUTDOWN)?;
+    sent.add(EXIT)?;
+    Ok(sent)
 }
 
 /// What it is answered, with these answers between.

@@ -1,7 +1,8 @@
 //! Sessions of compiles: what each compile publishes, and how it ends.
 use crate::runs::{
-    CLOSED, EXIT, Files, INITIALIZE, INITIALIZED, SHUTDOWN, add_frame, expect_shown, joined, tree,
+    CLOSED, EXIT, Files, INITIALIZE, INITIALIZED, SHUTDOWN, expect_shown, joined, tree,
 };
+use crate::sent::{Sent, add_frame};
 use std::alloc::Global;
 use std::process::Abort;
 use std::test::Fail;
@@ -107,16 +108,18 @@ pub fn published(alloc: Global, list: &List, origin: &str) -> Result<Vec<u8>, Fa
     )
 }
 
-/// A session of these compiles.
-fn session_of(alloc: Global, steps: &[Step]) -> Result<Vec<u8>, Fail> {
-    let mut bytes = Vec::from_slice(alloc, INITIALIZE)?;
+/// A session of these compiles, each of which is sent when the one before is answered.
+fn session_of(alloc: Global, steps: &[Step]) -> Result<Sent, Fail> {
+    let mut sent = Sent::new(alloc);
+    sent.add(INITIALIZE)?;
     for (targets, _, _) in steps {
         let request = compile(alloc, targets)?;
-        add_frame(alloc, request.as_bytes(), &mut bytes)?;
+        sent.add_body(alloc, request.as_bytes())?;
+        sent.wait_for_all()?;
     }
-    bytes.extend_from_slice(SHUTDOWN)?;
-    bytes.extend_from_slice(EXIT)?;
-    Ok(bytes)
+    sent.add(SHUTDOWN)?;
+    sent.add(EXIT)?;
+    Ok(sent)
 }
 
 /// What it is answered.

@@ -1,9 +1,9 @@
 //! Sessions of compiles with all that they are told: which checks start, and what is reported of the targets.
 //!
 //! Initialize is the first message of each session, so the compiles are messages 2, 3 and so on. These are their ids too.
-use crate::runs::{
-    CLOSED, EXIT, Files, INITIALIZE, INITIALIZED, SHUTDOWN, add_frame, expect_whole, tree,
-};
+use crate::asked::compile;
+use crate::runs::{CLOSED, EXIT, Files, INITIALIZE, INITIALIZED, SHUTDOWN, expect_whole, tree};
+use crate::sent::Sent;
 use crate::steps::APP;
 use crate::told::add_told;
 use std::alloc::Global;
@@ -664,28 +664,19 @@ result 4 1
     },
 ];
 
-/// The body of a compile with this id of targets that are named with blanks between.
-fn compile(alloc: Global, id: usize, asked: &str, origin: &str) -> Result<String, Fail> {
-    let mut targets = String::new(alloc);
-    for name in asked.split_whitespace() {
-        let comma = if targets.is_empty() { "" } else { "," };
-        let target = format!(in alloc; "{comma}{{\"uri\":\"file:///w/?id={name}\"}}")?;
-        targets.push_str(target.as_str())?;
-    }
-    Ok(format!(in alloc;
-        "{{\"jsonrpc\":\"2.0\",\"id\":{id},\"method\":\"buildTarget/compile\",\"params\":{{{origin}\"targets\":[{targets}]}}}}"
-    )?)
-}
-
-fn session_of(alloc: Global, row: &Row) -> Result<Vec<u8>, Fail> {
-    let mut bytes = Vec::from_slice(alloc, INITIALIZE)?;
+/// A session of these compiles, each of which is sent when the one before is answered.
+fn session_of(alloc: Global, row: &Row) -> Result<Sent, Fail> {
+    let mut sent = Sent::new(alloc);
+    sent.add(INITIALIZE)?;
     for number in 0..row.compiles.len() {
-        let request = compile(alloc, number + 2, row.compiles[number], row.origin)?;
-        add_frame(alloc, request.as_bytes(), &mut bytes)?;
+        let id = format!(in alloc; "{}", number + 2)?;
+        let request = compile(alloc, id.as_str(), row.compiles[number], row.origin)?;
+        sent.add_body(alloc, request.as_bytes())?;
+        sent.wait_for_all()?;
     }
-    bytes.extend_from_slice(SHUTDOWN)?;
-    bytes.extend_from_slice(EXIT)?;
-    Ok(bytes)
+    sent.add(SHUTDOWN)?;
+    sent.add(EXIT)?;
+    Ok(sent)
 }
 
 fn output_of(alloc: Global, row: &Row) -> Result<Vec<u8>, Fail> {

@@ -2,18 +2,22 @@
 //!
 //! `r2` is the build that is message 2 of the session, `r2.t1` its first target, and `r2.c1` the check that started first.
 //!
+//!     initialized                     the answer that opens the session
 //!     start r2
 //!     start r2.t1 app                 a target
 //!     start r2.c1 r2.t1 A.Mod         a check, inside its target's task, of a document
 //!     finish r2.c1 r2.t1 2            a check, with its status
 //!     publish app A.Mod               the empty list of a document in a target
 //!     publish app A.Mod; 0:17-0:18 1 noName unknown name: T
+//!     finish r2.t1 r2 3               a target of a build that was cancelled
 //!     report r2.t1 app 1 0            a target, with how many errors and warnings it has
 //!     report r2.t1 app 1 0 noop       the same where no check of it started
 //!     finish r2 2                     a build, with its status
 //!     result 2 2                      an answer, with its status
+//!     null 2                          an answer without a value
 //!     error 2 -32603 sources unreadable
-use crate::runs::add_frame;
+use crate::runs::INITIALIZED;
+use crate::sent::add_frame;
 use crate::steps::published;
 use std::alloc::Global;
 use std::test::Fail;
@@ -22,11 +26,18 @@ use std::test::Fail;
 pub fn add_told(alloc: Global, lines: &str, origin: &str, bytes: &mut Vec<u8>) -> Result<(), Fail> {
     for line in lines.lines() {
         if !line.is_empty() {
-            let body = body_of(alloc, line, origin)?;
-            add_frame(alloc, body.as_slice(), bytes)?;
+            add_line(alloc, line, origin, bytes)?;
         }
     }
     Ok(())
+}
+
+fn add_line(alloc: Global, line: &str, origin: &str, bytes: &mut Vec<u8>) -> Result<(), Fail> {
+    if line == "initialized" {
+        return Ok(bytes.extend_from_slice(INITIALIZED)?);
+    }
+    let body = body_of(alloc, line, origin)?;
+    add_frame(alloc, body.as_slice(), bytes)
 }
 
 /// The body of the message of a line.
@@ -35,6 +46,7 @@ fn body_of(alloc: Global, line: &str, origin: &str) -> Result<Vec<u8>, Fail> {
     match kind {
         "publish" => publication(alloc, rest, origin),
         "error" => error(alloc, rest),
+        "null" => null(alloc, rest),
         "result" => result(alloc, rest, origin),
         "report" => report(alloc, rest, origin),
         "start" => start(alloc, rest),
@@ -74,6 +86,11 @@ fn error(alloc: Global, rest: &str) -> Result<Vec<u8>, Fail> {
     let body = format!(in alloc;
         "{{\"error\":{{\"code\":{code},\"message\":\"{message}\"}},\"id\":{id},\"jsonrpc\":\"2.0\"}}"
     )?;
+    owned(alloc, body)
+}
+
+fn null(alloc: Global, id: &str) -> Result<Vec<u8>, Fail> {
+    let body = format!(in alloc; "{{\"id\":{id},\"jsonrpc\":\"2.0\",\"result\":null}}")?;
     owned(alloc, body)
 }
 

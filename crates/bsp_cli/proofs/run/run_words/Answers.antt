@@ -1,15 +1,13 @@
-use Rattle.bsp_cli.proofs.RunLaws.{served, read_failed, sink_failed, served_known}
-use Rattle.bsp_cli.proofs.WritingLaws.{on_ok}
+use Rattle.bsp_cli.specs.Outcomes.{code_of}
+use Rattle.bsp_cli.proofs.RunLaws.{collected_same, completes, served_dismissed}
+use Rattle.bsp_cli.proofs.WritingLaws.{on_ok_then}
 use Rattle.bsp_cli.proofs.run.run_words.Goals as goal
 
-pub returns-in-Ok-Serve-clause-session : goal.returns-in-Ok-Serve-clause-session
-returns-in-Ok-Serve-clause-session g c = on_ok _ _ (served _ _ _ _ c.serve-served.result.outcome c.serve-served.result.taken _ c.serve-served.ensures c.note.ensures)
+pub returns-clause-session : goal.returns-clause-session
+returns-clause-session g c =
+    on_ok_then _ _ _ (served_dismissed _ _ _ _ _ _ _ (code_of c.run_asked-ended.result.status) c.run_asked-ended.result.taken (collected_same _ _ c.run_asked-ended.ensures.free c.finish.ensures.finished)) c.run_asked-ended.ensures.session
 
-pub returns-in-Ok-Serve-clause-usage : goal.returns-in-Ok-Serve-clause-usage
-returns-in-Ok-Serve-clause-usage g c = λ six. absurd (served_known _ _ _ _ c.serve-served.result.outcome c.serve-served.result.taken _ c.serve-served.ensures c.note.ensures six)
-
-pub returns-in-Ok-Serve-clause-input : goal.returns-in-Ok-Serve-clause-input
-returns-in-Ok-Serve-clause-input g c = λ three. read_failed _ _ _ _ c.serve-served.result.outcome c.serve-served.result.taken _ c.serve-served.ensures c.note.ensures three
-
-pub returns-in-Ok-Serve-clause-sink : goal.returns-in-Ok-Serve-clause-sink
-returns-in-Ok-Serve-clause-sink g c = λ four. sink_failed _ _ _ _ _ _ c.note.ensures c.serve-served.ensures.sink four
+pub returns-clause-complete : goal.returns-clause-complete
+returns-clause-complete g c =
+    let ran = c.run_asked-ended.ensures in
+    on_ok_then _ _ _ (completes (code_of c.run_asked-ended.result.status) _ _ _ _ _ _ ran.input ran.sink) ran.within

@@ -3,7 +3,6 @@ use Rattle.std.proofs.lemmas.List.{length-replicate}
 use Rattle.build_plan.specs.Places.{Places}
 use Rattle.build_plan.specs.Rows.{OnCycle}
 use Rattle.oberon_types.specs.declared.entity.View.{View}
-use Rattle.target_graph.specs.declared.target.Pair.{Pair}
 use Rattle.build_sources.specs.Sources.{world}
 use Rattle.build_checks.proofs.BeginLaws.{begun, begun_numbers, wanted_are}
 use Rattle.build_checks.specs.Numbers.{AreNumbers}
@@ -21,13 +20,13 @@ returns-clause-settled c = ap (λ (pl : Places). of_build c.in_ok-wanted.wanted.
 
 pub first_views-requires-clause-rows : goal.first_views-requires-clause-rows
 first_views-requires-clause-rows c =
-    let all = ap (λ (ps : List Pair). length ps) c.pairs-count.ensures.pairs in
+    let all = c.count-size.ensures.count in
     let size = c.in_ok-plan.ensures.1.size in
     let same = ap (λ (pl : Places). length pl.rows) c.in_ok-plan.ensures.2 in
     omega (arith, all, size, same)
 
 pub first_views-requires-clause-few : goal.first_views-requires-clause-few
-first_views-requires-clause-few c = let few = c.pairs-count.ensures.few in omega (arith, few)
+first_views-requires-clause-few c = let few = c.count-size.ensures.few in omega (arith, few)
 
 pub returns-clause-checks : goal.returns-clause-checks
 returns-clause-checks c =
@@ -36,7 +35,7 @@ returns-clause-checks c =
     let views : List View = c.in_ok-views.views.items in
     let numbers : List ℕ = c.in_ok-numbers.numbers.items in
     let plan_is = c.in_ok-plan.ensures.2 in
-    let all = ap (λ (ps : List Pair). length ps) c.pairs-count.ensures.pairs in
+    let all = c.count-size.ensures.count in
     let count = ap (λ (ns : List ℕ). length ns) (c.in_ok-numbers.ensures.items_if_clones_equal (λ y e. e)) in
     record {
       sources = c.requires.sources;
@@ -53,7 +52,7 @@ returns-clause-numbers c = λ known are.
     let views : List View = c.in_ok-views.views.items in
     let first = c.args.first in
     let plan_is = c.in_ok-plan.ensures.2 in
-    let all = ap (λ (ps : List Pair). length ps) c.pairs-count.ensures.pairs in
+    let all = c.count-size.ensures.count in
     subst (λ (xs : List ℕ). AreNumbers known w keys xs views c.in_ok-numbers.numbers.items first.out first.missing) (sym (ap (λ (pl : Places). of_build keys pl.finished) plan_is))
     (subst (λ (ns : List ℕ). AreNumbers known w keys [] views ns first.out first.missing) (sym (c.in_ok-numbers.ensures.items_if_clones_equal (λ y e. e)))
     (begun_numbers w keys c.args.modules.now (wanted_are keys c.args.modules.now c.in_ok-wanted.ensures) c.requires.modules c.in_ok-plan.ensures.0 c.in_ok-plan.ensures.1 views

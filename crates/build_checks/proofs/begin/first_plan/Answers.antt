@@ -1,10 +1,9 @@
-use Rattle.std.proofs.Common.{ℕ, List, length, ap, arith}
+use Rattle.std.proofs.Common.{ℕ, arith}
 use Rattle.std.specs.Prelude.{Vec}
 use Rattle.std.specs.declared.alloc.Global.{Global}
 use Rattle.std.proofs.lemmas.List.{length-map}
 use Rattle.std.proofs.lemmas.Result.{IfOk-weaker}
 use Rattle.build_plan.specs.Lists.{lists}
-use Rattle.target_graph.specs.declared.target.Pair.{Pair}
 use Rattle.build_sources.proofs.RowLaws.{rows_within}
 use Rattle.build_sources.specs.Sources.{world}
 use Rattle.build_checks.proofs.begin.first_plan.Goals as goal
@@ -16,8 +15,8 @@ pub new-requires-clause-few : goal.new-requires-clause-few
 new-requires-clause-few c =
     let size = c.in_ok-rows.ensures.size in
     let items = length-map c.in_ok-rows.field-0.items (λ (row : Vec ℕ Global). row.items) in
-    let all = ap (λ (ps : List Pair). length ps) c.pairs-count.ensures.pairs in
-    let few = c.pairs-count.ensures.few in
+    let all = c.count-size.ensures.count in
+    let few = c.count-size.ensures.few in
     omega (arith, size, items, all, few)
 
 pub returns : goal.returns

@@ -10,7 +10,6 @@ use Rattle.build_plan.specs.Places.{Places, with_finished, with_given}
 use Rattle.build_plan.specs.Rows.{OnCycle}
 use Rattle.oberon_types.specs.declared.entity.View.{View}
 use Rattle.build_rules.specs.Views.{HasView}
-use Rattle.target_graph.specs.declared.target.Pair.{Pair}
 use Rattle.clean_build.specs.Build.{IsSoFar, Slots}
 use Rattle.build_sources.specs.Known.{view_at}
 use Rattle.build_sources.specs.Sources.{world}
@@ -29,8 +28,8 @@ pub new-requires-clause-few : goal.new-requires-clause-few
 new-requires-clause-few c =
     let size = c.in_ok-rows.ensures.size in
     let items = length-map c.in_ok-rows.field-0.items (λ (row : Vec ℕ Global). row.items) in
-    let all = ap (λ (ps : List Pair). length ps) c.pairs-count.ensures.pairs in
-    let few = c.pairs-count.ensures.few in
+    let all = c.count-size.ensures.count in
+    let few = c.count-size.ensures.few in
     omega (arith, size, items, all, few)
 
 pub modules-init : goal.modules-init
@@ -39,7 +38,7 @@ modules-init c =
     let rows = lists c.in_ok-rows.field-0 in
     let views = c.in_ok-views.views.items in
     let slots : Slots = c.in_ok-lists.lists.items in
-    let all = ap (λ (ps : List Pair). length ps) c.pairs-count.ensures.pairs in
+    let all = c.count-size.ensures.count in
     subst (λ (pl : Places). IsSoFar w c.args.modules.now pl views slots) (sym c.in_ok-plan.ensures)
     (begun w c.args.modules.now rows c.in_ok-rows.ensures views slots (c.in_ok-views.ensures.count ∙ all) (c.in_ok-lists.ensures ∙ all)
     (λ p on. c.in_ok-views.ensures.cyclic p (subst (λ (pl : Places). OnCycle pl.rows p) (sym c.in_ok-plan.ensures) on)))

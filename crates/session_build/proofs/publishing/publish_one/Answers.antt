@@ -15,7 +15,7 @@ returns c =
     let list : List Diagnostic = c.args.list.items in
     let origin = c.args.origin.now.value in
     let pieces : List PublishDiagnosticsParams = c.in_ok-pieces.pieces.items in
-    one_shown (shows c.args.shown.now) (shows c.publish.new.self) it origin list (map outgoing_said c.args.messages.now.items) (map outgoing_said c.say_all.new.messages.items)
+    one_shown (shows c.args.shown.now) (shows c.publish.new.self) it origin list (map outgoing_said c.args.out.now.items) (map outgoing_said c.say_all.new.out.items)
     pieces c.has_error-failed.result
     c.in_ok-pieces.ensures.same c.in_ok-pieces.ensures.other (c.in_ok-pieces.ensures.client (shows c.args.shown.now) refl) c.in_ok-pieces.ensures.table
     c.in_ok-say_all.ensures

@@ -6,4 +6,4 @@ use Rattle.session_build.proofs.telling.tell_starts.Given as goal
 
 abbrev pub invariant-loop-before : goal.invariant-loop-before
 invariant-loop-before l =
-    Tells (build_starts l.at.number ∷ starts_from l.at 1 (take l.before l.at.targets.keys)) (map outgoing_said l.fn.messages.items) (map outgoing_said l.messages.items)
+    Tells (build_starts l.at.number ∷ starts_from l.at 1 (take l.before l.at.targets.keys)) (map outgoing_said l.fn.out.items) (map outgoing_said l.out.items)

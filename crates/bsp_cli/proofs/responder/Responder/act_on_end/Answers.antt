@@ -1,10 +1,21 @@
 use Rattle.session_law.specs.Order.{ends}
-use Rattle.bsp_cli.proofs.WritingLaws.{acts_by, halts_lost, on_ok_then}
+use Rattle.session_law.specs.Verdicts.{IsBare}
+use Rattle.bsp_cli.proofs.NeedLaws.{took_end}
+use Rattle.bsp_cli.proofs.WritingLaws.{acts_by, halts_at, halts_lost, on_err_then, on_ok, on_ok_then}
 use Rattle.bsp_cli.proofs.responder.Responder.act_on_end.Goals as goal
 
 pub returns-in-Ok-clause-acts : goal.returns-in-Ok-clause-acts
 returns-in-Ok-clause-acts g c =
-    on_ok_then _ _ _ (acts_by c.args.self.now.core c.end.new.self c.flush.new.self.core _ _ (ends c.args.how) (c.end.ensures.stands c.requires.ready.alive)) c.flush.ensures.flushes
+    on_ok_then _ _ _ (acts_by IsBare c.args.self.now.core c.end.new.self c.flush.new.self.core _ _ (ends c.args.how) c.in-Ok.ensures.bare (c.end.ensures.stands c.requires.ready.met.alive)) c.flush.ensures.flushes
+
+pub returns-in-Ok-clause-took : goal.returns-in-Ok-clause-took
+returns-in-Ok-clause-took g c =
+    let acted = c.in-Ok.ensures in
+    on_ok _ _ (took_end c.args.self.now.core c.end.new.self c.flush.new.self.core c.flush.ensures.rest acted.settled acted.asking c.end.ensures.given acted.alive acted.idle)
+
+pub returns-in-Ok-clause-halts : goal.returns-in-Ok-clause-halts
+returns-in-Ok-clause-halts g c =
+    on_err_then _ _ _ (halts_at IsBare c.args.self.now.core c.end.new.self c.flush.new.self.core _ _ (ends c.args.how) c.in-Ok.ensures.bare (c.end.ensures.stands c.requires.ready.met.alive)) c.flush.ensures.halts
 
 pub returns-in-Err-clause-halts : goal.returns-in-Err-clause-halts
-returns-in-Err-clause-halts g c = halts_lost c.args.self.now.core c.end.new.self _ (ends c.args.how) (c.end.ensures.stands c.requires.ready.alive)
+returns-in-Err-clause-halts g c = halts_lost IsBare c.args.self.now.core c.end.new.self _ (ends c.args.how) (c.end.ensures.stands c.requires.ready.met.alive)

@@ -1,7 +1,7 @@
 use Rattle.std.proofs.Common.{◌≡◌, List}
 use Rattle.session_law.specs.Order.{Event}
-use Rattle.session_core.specs.Standing.{StandsFor, IsAlive, left_to_write}
-use Rattle.session_core.specs.State.{state_of}
+use Rattle.session_core.specs.Standing.{StandsFor, left_to_write}
+use Rattle.session_core.specs.State.{rest_of}
 use Rattle.bsp_cli.specs.Writing.{Flushes}
 use Rattle.bsp_cli.proofs.responder.Responder.flush.Given as goal
 
@@ -10,8 +10,7 @@ invariant-messages g l =
     record {
       flushes : Flushes l.initial.self.core l.self.core (g.K.Sink.given l.initial.output) (g.K.Sink.given l.output);
       stood : (order : List Event) × StandsFor l.self.core order;
-      alive : IsAlive l.initial.self.core → IsAlive l.self.core;
-      state : state_of l.self.core ≡ state_of l.initial.self.core;
+      rest : rest_of l.self.core ≡ rest_of l.initial.self.core;
       same : g.K.Sink.faults l.output ≡ g.K.Sink.faults l.initial.output;
     }
 

@@ -2,7 +2,7 @@ use Rattle.bsp_cli.specs.Progress.{ended, halted}
 use Rattle.bsp_cli.proofs.serve.Server.finish.Goals as goal
 
 pub returns-in-Ok-clause-finishes : goal.returns-in-Ok-clause-finishes
-returns-in-Ok-clause-finishes g c = ended (rw c.how.ensures at c.in-Ok.ensures.acts) c.in-Ok.ensures.quiet c.in-Ok.ensures.alive
+returns-in-Ok-clause-finishes g c = ended (rw c.how.ensures at c.in-Ok.ensures.steps) c.in-Ok.ensures.met
 
 pub returns-in-Err-clause-finishes : goal.returns-in-Err-clause-finishes
-returns-in-Err-clause-finishes g c = halted c.in-Err.stop (rw c.how.ensures at c.in-Err.ensures.halts)
+returns-in-Err-clause-finishes g c = halted c.in-Err.stop (rw c.how.ensures at c.in-Err.ensures.stops)

@@ -2,7 +2,7 @@ use Rattle.std.proofs.Common.{◌≡◌, ◌∷◌, [], ◌<◌, ◌≤◌, ◌-
 use Rattle.std.specs.Prelude.{Contains}
 use Rattle.std.proofs.lemmas.List.Elements.{Contains-push}
 use Rattle.build_plan.specs.Places.{Places, with_finished, with_given}
-use Rattle.build_checks.proofs.ChecksLaws.{checks_none, checks_taken, finished_none, finished_taken, left_none, less_taken, modules_now, next_taken, none_none, numbers_now, settled_now, taken_none, taken_taken, through_none, world_now}
+use Rattle.build_checks.proofs.ChecksLaws.{checks_none, checks_taken, finished_none, finished_taken, left_none, less_taken, modules_now, next_taken, none_none, numbers_before_now, numbers_now, settled_now, taken_none, taken_taken, through_none, world_now}
 use Rattle.build_checks.proofs.ListLaws.{among_listed, build_pass, not_among}
 use Rattle.build_checks.proofs.StandLaws.{given_few, passed_on}
 use Rattle.build_checks.specs.Stand.{AreSoFar, is_among, of_build, world_of}
@@ -79,6 +79,9 @@ returns-then-contains-clause-settled c = settled_now c.args.self.now c.places.se
 pub returns-then-contains-clause-numbers : goal.returns-then-contains-clause-numbers
 returns-then-contains-clause-numbers c = numbers_now c.args.self.now c.places.self c.ready.new.self c.places.invariant.same c.requires c.places.invariant.so_far c.places.invariant.given c.places.invariant.finished (finished_taken c.args.self.now c.places.self c.ready.new.self c.places.invariant.same c.requires c.places.invariant.so_far c.places.invariant.given c.places.invariant.finished c.in-Some.module c.in-Some.ensures.given c.in-Some.ensures.least (among c) c.places.invariant.rows c.places.invariant.further)
 
+pub returns-then-contains-clause-stays : goal.returns-then-contains-clause-stays
+returns-then-contains-clause-stays c = numbers_before_now c.args.self.now c.places.self c.ready.new.self c.places.invariant.same c.requires c.places.invariant.so_far c.places.invariant.given c.places.invariant.finished (finished_taken c.args.self.now c.places.self c.ready.new.self c.places.invariant.same c.requires c.places.invariant.so_far c.places.invariant.given c.places.invariant.finished c.in-Some.module c.in-Some.ensures.given c.in-Some.ensures.least (among c) c.places.invariant.rows c.places.invariant.further)
+
 pub returns-then-contains-clause-next : goal.returns-then-contains-clause-next
 returns-then-contains-clause-next c = next_taken c.args.self.now c.places.self c.ready.new.self c.places.invariant.same c.requires c.places.invariant.so_far c.places.invariant.given c.places.invariant.finished c.in-Some.module c.in-Some.ensures.given c.in-Some.ensures.least (among c) c.places.invariant.rows c.places.invariant.further
 
@@ -107,6 +110,9 @@ returns-clause-settled c = settled_now c.args.self.now c.places.self c.ready.new
 
 pub returns-clause-numbers : goal.returns-clause-numbers
 returns-clause-numbers c = numbers_now c.args.self.now c.places.self c.ready.new.self c.places.invariant.same c.requires c.places.invariant.so_far c.places.invariant.given c.places.invariant.finished (finished_none c.args.self.now c.places.self c.ready.new.self c.places.invariant.same c.requires c.places.invariant.so_far c.places.invariant.given c.places.invariant.finished c.in_default.ensures.unchanged c.in_default.ensures.none)
+
+pub returns-clause-stays : goal.returns-clause-stays
+returns-clause-stays c = numbers_before_now c.args.self.now c.places.self c.ready.new.self c.places.invariant.same c.requires c.places.invariant.so_far c.places.invariant.given c.places.invariant.finished (finished_none c.args.self.now c.places.self c.ready.new.self c.places.invariant.same c.requires c.places.invariant.so_far c.places.invariant.given c.places.invariant.finished c.in_default.ensures.unchanged c.in_default.ensures.none)
 
 pub returns-clause-none : goal.returns-clause-none
 returns-clause-none c = none_none c.args.self.now c.places.self c.ready.new.self c.places.invariant.same c.requires c.places.invariant.so_far c.places.invariant.given c.places.invariant.finished c.in_default.ensures.unchanged c.in_default.ensures.none

@@ -10,7 +10,7 @@ use Rattle.build_rules.specs.Views.{HasView}
 use Rattle.build_rules.specs.World.{IsCyclic}
 use Rattle.build_sources.proofs.ImportLaws.{cyclic_rows}
 use Rattle.build_checks.proofs.ListLaws.{build_listed, build_push, listed_build}
-use Rattle.build_checks.proofs.NumberLaws.{numbers_cyclic, numbers_on, numbers_view, settled_cyclic, settled_view}
+use Rattle.build_checks.proofs.NumberLaws.{before_cyclic, before_view, numbers_cyclic, numbers_on, numbers_view, settled_cyclic, settled_view}
 use Rattle.build_checks.specs.Numbers.{AreNumbers}
 use Rattle.build_checks.specs.Stand.{AreSoFar, of_build, settled_of, world_of}
 use Rattle.build_checks.proofs.checks.Checks.settle.Goals as goal
@@ -141,3 +141,26 @@ returns-clause-numbers c = λ shown are.
     (numbers_view keys w s.wanted.keys (settled_of s) s.views.items s.numbers.items s.out s.missing
     (numbers_on c.args.keys.now w s.wanted.keys (settled_of s) s.views.items s.numbers.items s.out s.missing are keys c.in_ok-number.ensures.earlier)
     m own number (omega (arith, h, size)) (omega (arith, h, count)) has key)))
+
+-- ---- what was settled before
+
+pub returns-then-on_cycle-clause-stays : goal.returns-then-on_cycle-clause-stays
+returns-then-on_cycle-clause-stays c = λ keys are.
+    let s = c.args.self.now in
+    before_cyclic keys (world_of s) s.wanted.keys (settled_of s) s.views.items s.numbers.items s.out s.missing c.args.index
+    (subst (λ (xs : List ℕ). AreNumbers keys (world_of s) s.wanted.keys xs s.views.items s.numbers.items s.out s.missing) (settled_then c) are)
+
+pub returns-clause-stays : goal.returns-clause-stays
+returns-clause-stays c = λ keys are.
+    let s = c.args.self.now in
+    let w = world_of s in
+    let m = c.args.index in
+    let acyclic : ¬ (IsCyclic w m) = λ cycle. false≢true (sym c.if-on_cycle.false ∙ c.on_cycle.ensures.1 ((cyclic_rows w s.plan.rows c.requires.checks.so_far.rows m).1 cycle)) in
+    let at = build_listed s.wanted.keys s.plan.given m c.requires.taken in
+    let own : View = c.in_ok-own.own in
+    let number = c.in_ok-number.number in
+    let settled = ap (λ (x : Places). of_build s.wanted.keys x.finished) c.finish-2.ensures ∙ build_push s.wanted.keys s.plan.finished m at.1 in
+    before_view keys w s.wanted.keys (settled_of s) s.views.items s.numbers.items s.out s.missing m own number c.requires.unsettled acyclic
+    (subst (λ (ns : List ℕ). AreNumbers keys w s.wanted.keys (settled_of s ++ m ∷ []) (slice_set s.views.items m own) ns s.out s.missing) c.put.ensures.numbers
+    (subst (λ (vs : List View). AreNumbers keys w s.wanted.keys (settled_of s ++ m ∷ []) vs c.put.new.numbers.items s.out s.missing) c.put.ensures.views
+    (subst (λ (xs : List ℕ). AreNumbers keys w s.wanted.keys xs c.put.new.views.items c.put.new.numbers.items s.out s.missing) settled are)))

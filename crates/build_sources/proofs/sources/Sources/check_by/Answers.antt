@@ -21,7 +21,7 @@ check-requires-clause-text c = subst IsReadable (sym c.document-document.ensures
 
 pub check-requires-clause-read : goal.check-requires-clause-read
 check-requires-clause-read c =
-    subst (λ (held : Held). IfSome c.document-document.result.now.reading (IsRead held)) (sym c.document-document.ensures.held_is) c.document-document.ensures.read
+    subst (λ (held : Held). IfSome c.document-document.result.now.reading (λ reading. IsRead held reading.value)) (sym c.document-document.ensures.held_is) c.document-document.ensures.read
 
 pub returns-clause-check : goal.returns-clause-check
 returns-clause-check c =
@@ -29,11 +29,11 @@ returns-clause-check c =
     let p = c.args.index in
     let views = view_in (plain_views c.args.views.now.entries) in
     IfOk-weaker c.check.result
-    (λ (f : Checked). Local c.document-document.result.now.held.now c.in_ok-stem.stem views f.list.items f.imports.items (plain_view f.view))
+    (λ (f : Checked). Local c.document-document.result.now.held.value c.in_ok-stem.stem views f.list.items f.imports.items (plain_view f.view))
     (λ (f : Checked). IsCheck w p views f.list.items f.imports.items (plain_view f.view))
     (λ f found.
     subst (λ (held : Held). Local held (stem_at w.targets p) views f.list.items f.imports.items (plain_view f.view)) c.document-document.ensures.held_is
-    (subst (λ (me : List ℕ). Local c.document-document.result.now.held.now me views f.list.items f.imports.items (plain_view f.view)) c.in_ok-stem.ensures found))
+    (subst (λ (me : List ℕ). Local c.document-document.result.now.held.value me views f.list.items f.imports.items (plain_view f.view)) c.in_ok-stem.ensures found))
     c.check.ensures
 
 pub returns-clause-imports : goal.returns-clause-imports
@@ -41,8 +41,8 @@ returns-clause-imports c =
     let stem : List ℕ = c.in_ok-stem.stem in
     let views = view_in (plain_views c.args.views.now.entries) in
     IfOk-weaker c.check.result
-    (λ (f : Checked). Local c.document-document.result.now.held.now stem views f.list.items f.imports.items (plain_view f.view))
+    (λ (f : Checked). Local c.document-document.result.now.held.value stem views f.list.items f.imports.items (plain_view f.view))
     (λ (f : Checked). AreImportsOf (held_in (world c.args.self.now) c.args.index) f.imports.items)
     (λ f found. subst (λ (held : Held). AreImportsOf held f.imports.items) c.document-document.ensures.held_is
-    (checked_imports stem views f.list.items f.imports.items (plain_view f.view) c.document-document.result.now.held.now found))
+    (checked_imports stem views f.list.items f.imports.items (plain_view f.view) c.document-document.result.now.held.value found))
     c.check.ensures

@@ -9,7 +9,7 @@ use Rattle.build_sources.proofs.sources.Sources.stem.Goals as goal
 
 pub returns : goal.returns
 returns c =
-    let targets = c.args.self.now.workspace.now.targets in
+    let targets = c.args.self.now.workspace.value.targets in
     let pairs = pairs_of targets in
     let pair = c.pair.result.now in
     IfOk-weaker c.stem_of.result (λ (name : List ℕ). name ≡ stem pair.path) (λ (name : List ℕ). name ≡ stem_at targets c.args.index)

@@ -12,7 +12,7 @@ use Rattle.build_sources.proofs.sources.Sources.view_of.Goals as goal
 
 pub returns-in-Some : goal.returns-in-Some
 returns-in-Some c =
-    let targets = c.args.self.now.workspace.now.targets in
+    let targets = c.args.self.now.workspace.value.targets in
     let kept : List View = c.args.kept.now in
     let q = c.in-Some.module in
     let visible : IsVisible targets c.args.target c.args.name.now q = subst (λ (o : Option ℕ). IfSome o (IsVisible targets c.args.target c.args.name.now)) c.in-Some.is c.visible.ensures.some in

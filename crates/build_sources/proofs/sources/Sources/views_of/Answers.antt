@@ -19,7 +19,7 @@ loop-name-init c = record {
 
 pub loop-name-preserved : goal.loop-name-preserved
 loop-name-preserved c =
-    let targets = c.args.self.now.workspace.now.targets in
+    let targets = c.args.self.now.workspace.value.targets in
     let kept = c.args.kept.now in
     let imports : List (List ℕ) = c.args.imports.now in
     let i = c.loop-name.name-index in
@@ -40,7 +40,7 @@ loop-name-preserved c =
 
 pub returns-clause-are : goal.returns-clause-are
 returns-clause-are c =
-    subst (λ (names : List (List ℕ)). AreViewsOf c.args.self.now.workspace.now.targets c.args.target c.args.kept.now names (view_in (plain_views c.loop-name.views.entries)))
+    subst (λ (names : List (List ℕ)). AreViewsOf c.args.self.now.workspace.value.targets c.args.target c.args.kept.now names (view_in (plain_views c.loop-name.views.entries)))
     (take_all c.loop-name.name-index c.args.imports.now (omega (arith, c.loop-name-test.false))) c.loop-name.invariant.are
 
 pub returns-clause-others : goal.returns-clause-others

@@ -9,6 +9,6 @@ use Rattle.build_sources.proofs.sources.Sources.views_of.Given as goal
 abbrev pub invariant-loop-name : goal.invariant-loop-name
 invariant-loop-name l =
     record {
-      are : AreViewsOf l.fn.self.workspace.now.targets l.fn.target l.fn.kept (take l.name-index l.fn.imports) (view_in (plain_views l.views.entries));
+      are : AreViewsOf l.fn.self.workspace.value.targets l.fn.target l.fn.kept (take l.name-index l.fn.imports) (view_in (plain_views l.views.entries));
       others : (name : List ℕ) → ¬ (Contains (take l.name-index l.fn.imports) name) → view_in (plain_views l.views.entries) name ≡ missing_view;
     }

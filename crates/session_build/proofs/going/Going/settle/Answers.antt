@@ -1,4 +1,5 @@
-use Rattle.std.proofs.Common.{◌≡◌, List, get_or, map, refl, ap, subst, ◌∙◌}
+use Rattle.std.proofs.Common.{◌≡◌, List, Some, map, refl, ap, sym, subst, ◌∙◌}
+use Rattle.std.specs.List.{slice_get}
 use Rattle.std.proofs.lemmas.Option.{get_or_from_slice_get}
 use Rattle.build_checks.specs.Numbers.{AreNumbersOf}
 use Rattle.build_checks.specs.Stand.{world_of}
@@ -22,9 +23,12 @@ returns c =
     let fact = c.args.fact.now in
     let old = c.args.self.now in
     let place = c.place_of-place.result in
-    let document : BuildDocument = build_document at.workspace.now pair in
-    let here : get_or at.documents.now place c.index-at-place.result ≡ document =
-    get_or_from_slice_get at.documents.now place document c.index-at-place.result c.place_of-place.ensures in
+    let document : BuildDocument = build_document at.workspace.value pair in
+    let documents : List BuildDocument = c.as_slice-documents.result.now in
+    let here : c.index-documents-place.result ≡ document =
+    c.index-documents-place.is
+    ∙ get_or_from_slice_get documents place document c.index-documents-place.result
+    (subst (λ (ds : List BuildDocument). slice_get ds place ≡ Some document) (sym c.as_slice-documents.ensures) c.place_of-place.ensures) in
     let found : c.checked-checked.result.now ≡ fact.checked = c.checked-checked.ensures.checked in
     let list : c.as_slice.result.now ≡ fact.checked.list.items = c.as_slice.ensures.value ∙ ap (λ (x : Checked). x.list.items) found in
     let own : c.in_ok-list.list.items ≡ fact.checked.list.items = c.in_ok-list.ensures ∙ (c.as_slice-2.ensures.value ∙ ap (λ (x : Checked). x.list.items) found) in
@@ -39,6 +43,7 @@ returns c =
       numbers =
           subst (λ (x : Checked). (¬ (IsCyclic (world_of old.checks) pair) → HasView (world_of old.checks) pair (plain_view x.view))
           → AreNumbersOf c.args.keys.now old.checks → AreNumbersOf c.settle.new.keys c.settle.new.self) found c.in_ok-settle.ensures.numbers;
+      stays = c.in_ok-settle.ensures.stays;
       more = c.in_ok-settle.ensures.earlier;
       place = place;
       there = c.place_of-place.ensures;
@@ -52,9 +57,9 @@ returns c =
       failed = c.in_ok-publish_one.field-0;
       published =
           subst (λ (d : BuildDocument). IsPublishedOne (shows c.args.shown.now) (shows c.publish_one.new.shown) d at.origin.value fact.checked.list.items
-          (map outgoing_said old.messages.items) (map outgoing_said c.publish_one.new.messages.items) c.in_ok-publish_one.field-0) here
-          (subst (λ (ds : List Diagnostic). IsPublishedOne (shows c.args.shown.now) (shows c.publish_one.new.shown) (get_or at.documents.now place c.index-at-place.result) at.origin.value ds
-          (map outgoing_said old.messages.items) (map outgoing_said c.publish_one.new.messages.items) c.in_ok-publish_one.field-0) own c.in_ok-publish_one.ensures);
+          (map outgoing_said c.args.out.now.items) (map outgoing_said c.publish_one.new.out.items) c.in_ok-publish_one.field-0) here
+          (subst (λ (ds : List Diagnostic). IsPublishedOne (shows c.args.shown.now) (shows c.publish_one.new.shown) c.index-documents-place.result at.origin.value ds
+          (map outgoing_said c.args.out.now.items) (map outgoing_said c.publish_one.new.out.items) c.in_ok-publish_one.field-0) own c.in_ok-publish_one.ensures);
       count = refl;
       jobs = refl;
       made = refl;

@@ -1,7 +1,17 @@
-use Rattle.session_core.proofs.Steps.{end_stands}
+use Rattle.std.proofs.lemmas.Result.{on_ok_weaker}
+use Rattle.session_core.proofs.Bare.{bare_quiet}
+use Rattle.session_core.proofs.Calls.{stands_behind}
+use Rattle.session_core.proofs.Giving.{settled_noting}
+use Rattle.session_core.specs.State.{rest_of}
+use Rattle.session_law.specs.Order.{ends}
 use Rattle.session_core.proofs.session.Core.end.Goals as goal
 
 pub returns-clause-stands : goal.returns-clause-stands
-returns-clause-stands c = λ alive order keeps.
-    end_stands c.args.self.now c.act_on_end-acted.new.self c.args.why c.act_on_end-acted.result c.is_err-self.result order c.is_err-self.ensures.value
-    c.act_on_end-acted.ensures.ok c.act_on_end-acted.ensures.err c.requires.quiet c.requires.running c.requires.free alive keeps
+returns-clause-stands c alive order stands =
+    stands_behind c.args.self.now c.take_end-acted.new.self (ends c.args.how) c.take_end-acted.result c.is_err-self.result c.is_err-self.ensures.value c.take_end-acted.ensures.ok c.take_end-acted.ensures.lost alive order stands
+
+pub returns-clause-settled : goal.returns-clause-settled
+returns-clause-settled c = on_ok_weaker c.take_end-acted.result (settled_noting (rest_of c.take_end-acted.new.self) c.is_err-self.result) c.take_end-acted.ensures.settled
+
+pub returns-clause-bare : goal.returns-clause-bare
+returns-clause-bare c = on_ok_weaker c.take_end-acted.result (bare_quiet c.args.self.now c.take_end-acted.new.self c.requires.quiet) c.take_end-acted.ensures.bare

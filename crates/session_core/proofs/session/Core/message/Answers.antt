@@ -1,7 +1,29 @@
-use Rattle.session_core.proofs.Steps.{message_stands}
+use Rattle.std.proofs.lemmas.Result.{on_ok_weaker}
+use Rattle.session_core.proofs.Bare.{bare_quiet}
+use Rattle.session_core.proofs.Calls.{awaits_stays, back_stays, stands_behind}
+use Rattle.session_core.proofs.Giving.{settled_noting}
+use Rattle.session_core.specs.State.{rest_of}
+use Rattle.session_law.specs.Order.{take}
 use Rattle.session_core.proofs.session.Core.message.Goals as goal
 
 pub returns-clause-stands : goal.returns-clause-stands
-returns-clause-stands c = λ alive order keeps.
-    message_stands c.args.self.now c.act-acted.new.self c.args.body.now c.act-acted.result c.is_err-self.result order c.is_err-self.ensures.value
-    c.act-acted.ensures.ok c.act-acted.ensures.err c.requires.quiet c.requires.running c.requires.free alive keeps
+returns-clause-stands c alive order stands =
+    stands_behind c.args.self.now c.act-acted.new.self (take c.args.body.now) c.act-acted.result c.is_err-self.result c.is_err-self.ensures.value c.act-acted.ensures.ok c.act-acted.ensures.lost alive order stands
+
+pub returns-clause-settled : goal.returns-clause-settled
+returns-clause-settled c = on_ok_weaker c.act-acted.result (settled_noting (rest_of c.act-acted.new.self) c.is_err-self.result) c.act-acted.ensures.settled
+
+pub returns-clause-bare : goal.returns-clause-bare
+returns-clause-bare c = on_ok_weaker c.act-acted.result (bare_quiet c.args.self.now c.act-acted.new.self c.requires.quiet) c.act-acted.ensures.bare
+
+pub returns-clause-back : goal.returns-clause-back
+returns-clause-back c =
+    on_ok_weaker c.act-acted.result
+    (λ stays. back_stays (rest_of c.args.self.now) (record (rest_of c.act-acted.new.self) { dead = c.is_err-self.result }) stays c.act-acted.ensures.jobs.jobs c.act-acted.ensures.jobs.given)
+    c.act-acted.ensures.stays
+
+pub returns-clause-awaits : goal.returns-clause-awaits
+returns-clause-awaits c =
+    on_ok_weaker c.act-acted.result
+    (λ stays. awaits_stays (rest_of c.args.self.now) (record (rest_of c.act-acted.new.self) { dead = c.is_err-self.result }) stays c.act-acted.ensures.jobs.jobs c.act-acted.ensures.jobs.given)
+    c.act-acted.ensures.stays

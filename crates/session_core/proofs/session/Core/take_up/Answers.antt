@@ -1,22 +1,43 @@
+use Rattle.std.proofs.Common.{inr, ap, refl, subst, sym, ◌∙◌}
+use Rattle.std.specs.Prelude.{Option}
 use Rattle.std.proofs.lemmas.Result.{on_ok_weaker}
-use Rattle.session_law.specs.Methods.{taken_in}
-use Rattle.session_core.specs.Judging.{Fits, IsPlanOf, IsSaid, queued_call}
+use Rattle.session_core.proofs.TakingUp.{takes_plan, takes_refusal}
+use Rattle.session_core.specs.Judging.{Fits, IsPlanOf, queued_call}
+use Rattle.session_core.specs.Standing.{HeadGoesOn, HeadRests}
+use Rattle.session_core.specs.State.{rest_of}
+use Rattle.session_core.specs.declared.head.Head.{Head}
+use Rattle.session_core.specs.declared.session.Core.{Core}
 use Rattle.session_core.specs.declared.verdicts.Answer.TheVariants as answers
-use Rattle.session_core.proofs.Serving.{takes_answer, takes_plan}
+use Rattle.session_law.specs.Methods.{taken_in}
 use Rattle.session_core.proofs.session.Core.take_up.Goals as goal
 
 pub returns-in-Building-clause-ok : goal.returns-in-Building-clause-ok
 returns-in-Building-clause-ok c =
-    let force = c.args.self.now.workspace in
-    let v = taken_in force (queued_call c.args.call) in
-    let plan : IsPlanOf force v c.in-Building.planned = rw c.in-Building.is at c.in_ok-planned.ensures.taken in
-    on_ok_weaker c.plan.result (λ does. takes_plan c.args.self.now c.plan.new.self c.args.id v c.requires.named c.in-Building.planned plan does) c.plan.ensures.ok
+    let old = c.args.self.now in
+    let waiting = c.args.waiting in
+    let of : IsPlanOf old.workspace (taken_in old.workspace (queued_call waiting.call)) c.in-Building.planned = rw c.in-Building.is at c.in_ok-planned.ensures.taken in
+    on_ok_weaker c.plan.result (λ plans. takes_plan old c.plan.new.self waiting c.in-Building.planned c.requires.named of plans) c.plan.ensures.ok
+
+pub returns-in-Building-clause-rest : goal.returns-in-Building-clause-rest
+returns-in-Building-clause-rest c =
+    let old = c.args.self.now in
+    let waiting = c.args.waiting in
+    let of : IsPlanOf old.workspace (taken_in old.workspace (queued_call waiting.call)) c.in-Building.planned = rw c.in-Building.is at c.in_ok-planned.ensures.taken in
+    on_ok_weaker c.plan.result (λ plans. inr (c.in-Building.planned, record { space = of.space; in_force = of.in_force; within = of.within }, ap rest_of plans)) c.plan.ensures.ok
+
+pub returns-in-Building-clause-rests : goal.returns-in-Building-clause-rests
+returns-in-Building-clause-rests c =
+    on_ok_weaker c.plan.result (λ plans. subst (λ (h : Option Head). HeadRests h) (sym (ap (λ (core : Core). core.head) plans)) (c.requires.named, tt)) c.plan.ensures.ok
+
+pub returns-in-Building-clause-goes_on : goal.returns-in-Building-clause-goes_on
+returns-in-Building-clause-goes_on c =
+    on_ok_weaker c.plan.result (λ plans. subst (λ (h : Option Head). HeadGoesOn h) (sym (ap (λ (core : Core). core.head) plans)) refl) c.plan.ensures.ok
 
 pub returns-in-Refused-clause-ok : goal.returns-in-Refused-clause-ok
 returns-in-Refused-clause-ok c =
-    let force = c.args.self.now.workspace in
-    let v = taken_in force (queued_call c.args.call) in
-    let answer = answers.Refused c.in-Refused.reason in
-    let fits : Fits v answer = rw c.in-Refused.is at c.in_ok-planned.ensures.taken in
-    let short : IsSaid answer = rw c.in-Refused.is at c.in_ok-planned.ensures.short in
-    on_ok_weaker c.answer.result (λ does. takes_answer c.args.self.now c.answer.new.self c.args.id v c.requires.named answer fits short does) c.answer.ensures.ok
+    let old = c.args.self.now in
+    let waiting = c.args.waiting in
+    let fits : Fits (taken_in old.workspace (queued_call waiting.call)) (answers.Refused c.in-Refused.reason) = rw c.in-Refused.is at c.in_ok-planned.ensures.taken in
+    on_ok_weaker c.refuse_first.result
+    (λ ok. takes_refusal old c.refuse_first.new.self waiting c.in-Refused.reason fits ok (ap (λ (core : Core). core.head) c.refuse_first.ensures.same ∙ c.requires.none))
+    c.refuse_first.ensures.ok

@@ -1,0 +1,11 @@
+pub mod Courses
+pub mod Status
+pub mod OneCancel
+pub mod Next
+pub mod OneCheck
+pub mod OneBuild
+pub mod BothCancelled
+pub mod Finishing
+pub mod AnyBuild
+pub mod Waiting
+pub mod Taking

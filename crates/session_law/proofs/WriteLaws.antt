@@ -1,0 +1,272 @@
+-- What each kind of write needs: one lemma for each kind, with one line for each sentence.
+use Rattle.std.proofs.Common.{◌≡◌, ◌++◌, ◌||◌, ◌&&◌, ℕ, ℤ, List, [], ◌∷◌, Bool, true, false, All, Option, Some, None, refl, ap, sym, ◌∙◌, subst, true≢false}
+use Rattle.std.specs.Prelude.{if◌then◌else◌, is_some}
+use Rattle.std.proofs.lemmas.List.Elements.{All-head, All-tail}
+use Rattle.rpc_peer.specs.declared.message.Id.{Id}
+use Rattle.rpc_peer.specs.OpenIds.{same_id}
+use Rattle.rpc_peer.specs.Said.{Said, request, notification, result, failure}
+use Rattle.serde_json.specs.Data.{Data}
+use Rattle.target_graph.specs.Workspace.{Space}
+use Rattle.session_law.proofs.RequestLaws.{HasOther, owed_behind, same_id_refl, without_behind}
+use Rattle.session_law.specs.Builds.{build_said, cancelled_said, is_publication}
+use Rattle.session_law.specs.CancelsForCause.{CancelsAs, CancelsForCause, CancelsNext, HasCancelledAll}
+use Rattle.session_law.specs.History.{Told}
+use Rattle.session_law.specs.If.{If}
+use Rattle.session_law.specs.IsFramed.{IsFramed}
+use Rattle.session_law.specs.Lawful.{GoesOn, GoesOnOrCancels, WriteAllowed}
+use Rattle.session_law.specs.Methods.{Build, Verdict, asking, opening, queued, building, built, answering, closing, refusal, Call, to_build, due_in, null_message}
+use Rattle.session_law.specs.Past.{Now, builds_by, standing}
+use Rattle.session_law.specs.PublishesInBuildsOnly.{PublishesFor}
+use Rattle.session_law.specs.RefusesExactly.{IsGranted, IsRefused}
+use Rattle.session_law.specs.Requests.{Active, Asked, active_as, active_of, first_marked, first_up, is_open, owed_to, without}
+use Rattle.session_law.specs.ShowsCleanBuild.{PublishesNext, ShowsAll, ShowsFor}
+use Rattle.session_law.specs.ShowsOldOrNew.{ShowsEither, ShowsEitherFor}
+use Rattle.session_law.specs.TakesUpInOrder.{AnswersBuild, AnswersFor}
+use Rattle.session_law.specs.TasksInOrder.{HasToldAll, TellsFor, TellsNext}
+
+-- ---- claims behind a test
+
+if_so : (b : Bool) (A : Type 0) → A → If b A
+if_so true A a = a
+if_so false A a = tt
+
+if_then : (b : Bool) (A : Type 0) → (b ≡ true → A) → If b A
+if_then true A a = a refl
+if_then false A a = tt
+
+if_not : (b : Bool) (A : Type 0) → b ≡ false → If b A
+if_not true A other = absurd (true≢false other)
+if_not false A other = tt
+
+-- ---- the active build
+
+abbrev pub is_built : Verdict → Bool
+is_built (built build entries) = true
+is_built v = false
+
+-- no build is active that has this id
+abbrev pub IsOtherThan : Id → Option Active → Type 0
+IsOtherThan id None = Unit {0}
+IsOtherThan id (Some active) = same_id id active.id ≡ false
+
+pub unbuilt : (asked : Asked) (v : Verdict) → is_built v ≡ false → active_as asked v ≡ None
+unbuilt asked (built build entries) other = absurd (true≢false other)
+unbuilt asked (queued call) other = refl
+unbuilt asked (asking root) other = refl
+unbuilt asked (opening root file) other = refl
+unbuilt asked (building build) other = refl
+unbuilt asked (answering space question) other = refl
+unbuilt asked closing other = refl
+unbuilt asked (refusal code text) other = refl
+
+first_other : (id : Id) (first : Asked) (v : Verdict) → HasOther id first → IsOtherThan id (active_as first v)
+first_other id first (built build entries) other = other
+first_other id first (queued call) other = tt
+first_other id first (asking root) other = tt
+first_other id first (opening root file) other = tt
+first_other id first (building build) other = tt
+first_other id first (answering space question) other = tt
+first_other id first closing other = tt
+first_other id first (refusal code text) other = tt
+
+pub active_behind : (before rest : List Asked) (asked : Asked) → All (HasOther asked.id) before → is_built asked.verdict ≡ false
+    → IsOtherThan asked.id (active_of (before ++ asked ∷ rest))
+active_behind [] rest asked others other = subst (IsOtherThan asked.id) (sym (unbuilt asked asked.verdict other)) tt
+active_behind (first ∷ before) rest asked others other = first_other asked.id first first.verdict (All-head (HasOther asked.id) first before others)
+
+-- a response to another request says nothing of the active build
+module _ (id : Id) (value : Data) (now : Now) where
+  abbrev m : Said
+  m = result (Some id) value
+
+  answers_other : (active : Option Active) → IsOtherThan id active → AnswersFor m active
+  answers_other None other = tt
+  answers_other (Some active) other = if_not (same_id id active.id) (AnswersBuild active value) other
+
+  shows_other : (active : Option Active) → IsOtherThan id active → ShowsFor m active now
+  shows_other None other = tt
+  shows_other (Some active) other = if_not (same_id id active.id) (ShowsAll active now.table) other
+
+  tells_other : (active : Option Active) → IsOtherThan id active → TellsFor m active now
+  tells_other None other = tt
+  tells_other (Some active) other = if_not (same_id id active.id) (HasToldAll active now) other
+
+  either_other : (active : Option Active) → IsOtherThan id active → ShowsEitherFor m active now
+  either_other None other = tt
+  either_other (Some active) other = if_not (same_id id active.id) (ShowsEither active now.table_at_hand now.table) other
+
+  pub builds_other : (active : Option Active) (notices : List Said) (builds : List Told) → IsOtherThan id active → builds_by m active notices builds ≡ builds
+  builds_other None notices builds other = refl
+  builds_other (Some active) notices builds other = ap (λ same. if same then record { active = active; notices = notices } ∷ builds else builds) other
+
+-- a response publishes nothing
+silent : (active : Option Active) (m : Said) → is_publication m ≡ false → PublishesFor active m
+silent None m is = is
+silent (Some active) m is = tt
+
+-- ---- what the request is owed that a response answers
+
+pub owed_first : (force : Option Space) (rest : List Asked) (asked : Asked) → owed_to asked.id (first_up force (asked ∷ rest)) ≡ Some (due_in force asked.verdict)
+owed_first force rest asked = ap (λ b. if b then Some (due_in force asked.verdict) else owed_to asked.id rest) (same_id_refl asked.id)
+
+-- one that isn't of the queue is owed the same wherever it stands
+pub owed_anywhere : (force : Option Space) (before rest : List Asked) (asked : Asked) → All (HasOther asked.id) before → due_in force asked.verdict ≡ asked.verdict
+    → owed_to asked.id (first_up force (before ++ asked ∷ rest)) ≡ Some asked.verdict
+owed_anywhere force [] rest asked others same = owed_first force rest asked ∙ ap Some same
+owed_anywhere force (first ∷ before) rest asked others same =
+    ap (λ b. if b then Some (due_in force first.verdict) else owed_to asked.id (before ++ asked ∷ rest)) (All-head (HasOther asked.id) first before others)
+    ∙ owed_behind asked.id before rest asked (All-tail (HasOther asked.id) first before others) (same_id_refl asked.id)
+
+-- ---- responses to one of the requests that are there
+
+module _ (now : Now) (before rest : List Asked) (asked : Asked) (are : now.requests ≡ before ++ asked ∷ rest) (others : All (HasOther asked.id) before) where
+  is_open_one : is_open asked.id now.requests ≡ true
+  is_open_one =
+      ap (λ requests. is_some (owed_to asked.id requests)) are
+      ∙ ap is_some (owed_behind asked.id before rest asked others (same_id_refl asked.id))
+
+  -- it isn't open any more
+  pub left_open : without asked.id now.requests ≡ before ++ rest
+  left_open = ap (without asked.id) are ∙ without_behind asked.id before rest asked others (same_id_refl asked.id)
+
+  -- what it is owed
+  pub owed_open : owed_to asked.id now.requests ≡ Some asked.verdict
+  owed_open = ap (owed_to asked.id) are ∙ owed_behind asked.id before rest asked others (same_id_refl asked.id)
+
+  pub other_active : is_built asked.verdict ≡ false → IsOtherThan asked.id (active_of now.requests)
+  other_active other = subst (λ requests. IsOtherThan asked.id (active_of requests)) (sym are) (active_behind before rest asked others other)
+
+  -- no request is to be cancelled
+  module _ (v : Verdict) (unmarked : first_marked now.requests ≡ None) (stands : owed_to asked.id (standing now) ≡ Some v) where
+    pub allowed_result : (value : Data) → IsGranted (Some v) value → is_built asked.verdict ≡ false → IsFramed (result (Some asked.id) value)
+        → WriteAllowed now (result (Some asked.id) value)
+    allowed_result value granted other framed =
+        let m = result (Some asked.id) value in
+        let apart = other_active other in
+        record {
+          framed = framed;
+          once = is_open_one;
+          in_builds = silent (active_of now.requests) m refl;
+          by_marks = subst (λ o. GoesOnOrCancels o now m) (sym unmarked) (record {
+            exact = subst (λ o. IsGranted o value) (sym stands) granted;
+            in_order = answers_other asked.id value now (active_of now.requests) apart;
+            shows = shows_other asked.id value now (active_of now.requests) apart;
+            tasks = tells_other asked.id value now (active_of now.requests) apart;
+          });
+        }
+
+    pub allowed_refusal : (code : ℤ) (text : List ℕ) → IsRefused (Some v) code text → IsFramed (failure (Some asked.id) code text)
+        → WriteAllowed now (failure (Some asked.id) code text)
+    allowed_refusal code text refused framed =
+        let m = failure (Some asked.id) code text in
+        record {
+          framed = framed;
+          once = is_open_one;
+          in_builds = silent (active_of now.requests) m refl;
+          by_marks = subst (λ o. GoesOnOrCancels o now m) (sym unmarked) (record {
+            exact = subst (λ o. IsRefused o code text) (sym stands) refused;
+            in_order = tt;
+            shows = tt;
+            tasks = tt;
+          });
+        }
+
+  -- it is the first that is to be cancelled, and waits
+  pub allowed_cancel : (call : Call) (m : Said) → asked.verdict ≡ queued call → first_marked now.requests ≡ Some asked → CancelsForCause asked now m
+      → (value : Data) → m ≡ result (Some asked.id) value → IsFramed m → WriteAllowed now m
+  allowed_cancel call m waits marked owes value is framed =
+      let apart = other_active (ap is_built waits) in
+      let response = result (Some asked.id) value in
+      subst (WriteAllowed now) (sym is)
+      (record {
+        framed = subst IsFramed is framed;
+        once = is_open_one;
+        in_builds = silent (active_of now.requests) response refl;
+        by_marks = subst (λ o. GoesOnOrCancels o now response) (sym marked) (record {
+          for_cause = subst (CancelsForCause asked now) is owes;
+          old_or_new = either_other asked.id value now (active_of now.requests) apart;
+        });
+      })
+
+-- ---- the response with the id null
+
+pub allowed_null : (now : Now) (code : ℤ) (others : List ℤ) → now.nulls ≡ code ∷ others → first_marked now.requests ≡ None
+    → IsFramed (failure None code (null_message code)) → WriteAllowed now (failure None code (null_message code))
+allowed_null now code others are unmarked framed =
+    let m = failure None code (null_message code) in
+    record {
+      framed = framed;
+      once = record { first = code; others = others; are = are };
+      in_builds = silent (active_of now.requests) m refl;
+      by_marks = subst (λ o. GoesOnOrCancels o now m) (sym unmarked) (record {
+        exact = rw are (refl, refl);
+        in_order = tt;
+        shows = tt;
+        tasks = tt;
+      });
+    }
+
+-- ---- what the active build writes
+
+module _ (now : Now) (active : Active) (is_active : active_of now.requests ≡ Some active) where
+  -- where no request is to be cancelled
+  module _ (unmarked : first_marked now.requests ≡ None) where
+    pub allowed_notice : (method : List ℕ) (params : Option Data) → TellsNext active now (notification method params)
+        → (is_publication (notification method params) ≡ true → PublishesNext active now (notification method params)) → IsFramed (notification method params)
+        → WriteAllowed now (notification method params)
+    allowed_notice method params tells next framed =
+        let m = notification method params in
+        record {
+          framed = framed;
+          once = tt;
+          in_builds = subst (λ a. PublishesFor a m) (sym is_active) tt;
+          by_marks = subst (λ o. GoesOnOrCancels o now m) (sym unmarked) (record {
+            exact = tt;
+            in_order = tt;
+            shows = subst (λ a. ShowsFor m a now) (sym is_active) (if_then (is_publication m) (PublishesNext active now m) next);
+            tasks = subst (λ a. TellsFor m a now) (sym is_active) tells;
+          });
+        }
+
+    pub allowed_build : (value : Data) → is_open active.id now.requests ≡ true → IsGranted (owed_to active.id (standing now)) value → AnswersBuild active value
+        → ShowsAll active now.table → HasToldAll active now → IsFramed (result (Some active.id) value) → WriteAllowed now (result (Some active.id) value)
+    allowed_build value there granted answers shows told framed =
+        let m = result (Some active.id) value in
+        record {
+          framed = framed;
+          once = there;
+          in_builds = silent (active_of now.requests) m refl;
+          by_marks = subst (λ o. GoesOnOrCancels o now m) (sym unmarked) (record {
+            exact = granted;
+            in_order = subst (AnswersFor m) (sym is_active) (if_so (same_id active.id active.id) (AnswersBuild active value) answers);
+            shows = subst (λ a. ShowsFor m a now) (sym is_active) (if_so (same_id active.id active.id) (ShowsAll active now.table) shows);
+            tasks = subst (λ a. TellsFor m a now) (sym is_active) (if_so (same_id active.id active.id) (HasToldAll active now) told);
+          });
+        }
+
+  -- where it is to be cancelled
+  module _ (asked : Asked) (marked : first_marked now.requests ≡ Some asked) where
+    pub allowed_cancels : (method : List ℕ) (params : Option Data) → CancelsForCause asked now (notification method params)
+        → IsFramed (notification method params) → WriteAllowed now (notification method params)
+    allowed_cancels method params cancels framed =
+        let m = notification method params in
+        record {
+          framed = framed;
+          once = tt;
+          in_builds = subst (λ a. PublishesFor a m) (sym is_active) tt;
+          by_marks = subst (λ o. GoesOnOrCancels o now m) (sym marked) (record { for_cause = cancels; old_or_new = tt });
+        }
+
+    pub allowed_cancelled : (value : Data) → is_open active.id now.requests ≡ true → CancelsForCause asked now (result (Some active.id) value)
+        → ShowsEither active now.table_at_hand now.table → IsFramed (result (Some active.id) value) → WriteAllowed now (result (Some active.id) value)
+    allowed_cancelled value there cancels shows framed =
+        let m = result (Some active.id) value in
+        record {
+          framed = framed;
+          once = there;
+          in_builds = silent (active_of now.requests) m refl;
+          by_marks = subst (λ o. GoesOnOrCancels o now m) (sym marked) (record {
+            for_cause = cancels;
+            old_or_new = subst (λ a. ShowsEitherFor m a now) (sym is_active) (if_so (same_id active.id active.id) (ShowsEither active now.table_at_hand now.table) shows);
+          });
+        }
