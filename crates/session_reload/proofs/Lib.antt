@@ -1,0 +1,5 @@
+pub mod NameLaws
+pub mod SideLaws
+pub mod ChangeLaws
+pub mod PairLaws
+pub mod NumberLaws

@@ -1,0 +1,3 @@
+pub mod Keys
+pub mod Sides
+pub mod Numbers
