@@ -76,13 +76,10 @@ with_more targets target name =
     find-append (λ (t : Target). bytes_eq name t.name) targets (target ∷ [])
     ∙ ap (λ b. option_or (with_name name targets) (cond b (Some target) None)) (same_bytes target.name name)
 
-or_none : {X : Type 0} (o : Option X) → option_or o None ≡ o
+pub or_none : {X : Type 0} (o : Option X) → option_or o None ≡ o
 or_none None = refl
 or_none (Some x) = refl
 
 pub with_none : (targets : List Target) (name : List ℕ) (b : Bool) → with_name name targets ≡ option_or (with_name name targets) (if b then None else None)
 with_none targets name true = sym (or_none (with_name name targets))
 with_none targets name false = sym (or_none (with_name name targets))
-
-pub or_none_is : {X : Type 0} (o : Option X) → option_or o None ≡ o
-or_none_is = or_none

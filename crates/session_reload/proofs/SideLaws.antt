@@ -21,7 +21,7 @@ use Rattle.target_graph.specs.declared.target.Target.{Target}
 use Rattle.reload_rules.specs.Changes.{IsBefore, names_of, with_name}
 use Rattle.session_reload.specs.Sides.{AreSides, HasSides, IsEntryOf, IsInOrder, IsSideAt, joined_to, name_cmp, names_in, new_of, old_of, same_name, side_at}
 use Rattle.session_reload.specs.declared.sides.Side.{Side}
-use Rattle.session_reload.proofs.NameLaws.{found, finds, or_none_is, same_from, some_of}
+use Rattle.session_reload.proofs.NameLaws.{found, finds, or_none, same_from, some_of}
 
 -- ---- one more target
 
@@ -69,9 +69,9 @@ module _ (olds news more_olds more_news : List Target) (name : List ℕ) (side :
   put_by q false e =
       let is : after q ≡ before q = put q ∙ ap (λ b. if b then Some (joined_to (before name) side) else before q) e in
       let old : with_name q more_olds ≡ with_name q olds =
-      old_more q ∙ (ap (λ b. option_or (with_name q olds) (if b then option_copied side.old else None)) e ∙ or_none_is (with_name q olds)) in
+      old_more q ∙ (ap (λ b. option_or (with_name q olds) (if b then option_copied side.old else None)) e ∙ or_none (with_name q olds)) in
       let new : with_name q more_news ≡ with_name q news =
-      new_more q ∙ (ap (λ b. option_or (with_name q news) (if b then option_copied side.new else None)) e ∙ or_none_is (with_name q news)) in
+      new_more q ∙ (ap (λ b. option_or (with_name q news) (if b then option_copied side.new else None)) e ∙ or_none (with_name q news)) in
       record {
         old_is = ap old_of is ∙ ((was q).old_is ∙ sym old);
         new_is = ap new_of is ∙ ((was q).new_is ∙ sym new);
