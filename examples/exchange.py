@@ -1,6 +1,7 @@
 """Talks to a build server as an editor does, and prints the exchange for a person to read. The workspace is
-a copy of examples/workspace, in which modules are broken and mended. At the end builds are cancelled, and it is told of
-each document whether it keeps what was shown of it or has what is new; a list that is neither ends the exchange.
+a copy of examples/workspace, in which modules are broken and mended. Then builds are cancelled, and it is told of each
+document whether it keeps what was shown of it or has what is new; a list that is neither ends the exchange. At the end the
+workspace file gets a module and a target more, and loses them again, and is read anew each time.
 
 usage: exchange.py [--messages] PROGRAM
 
@@ -33,8 +34,16 @@ CANCELLED = (
     ("tests/PointsTest.Mod", "p.y = -3", "p.z = -3"),
 )
 
+# What is added to the workspace file: a module of a target that is there, and a target with a module of its own. Each has a
+# fault, as something new may have.
+ADDED_TO = "shapes"
+ADDED_MODULE = ("shapes/Squares.Mod", "MODULE Squares;\n\nCONST\n  Corners* = 4;\n\nEND Square.\n")
+ADDED_TARGET = {"name": "garden", "kind": "library", "modules": ["garden/Trees.Mod"], "dependencies": ["shapes"]}
+TREES = "MODULE Trees;\n\nIMPORT Points;\n\nVAR\n  top: Points.Point;\n\nBEGIN\n  top.z := 1\nEND Trees.\n"
+
 SEVERITIES = {1: "error", 2: "warning", 3: "note", 4: "hint"}
 STATUSES = {1: "ok", 2: "error", 3: "cancelled"}
+CHANGES = {1: "created", 2: "changed", 3: "deleted"}
 
 
 def frame(message):
@@ -121,7 +130,12 @@ def counted(number, word):
     return f"{number} {word}" if number == 1 else f"{number} {word}s"
 
 
-def followed(method, params, root, names):
+def name_in(target):
+    """The name of a target, as its id has it."""
+    return urllib.parse.parse_qs(urllib.parse.urlsplit(target["uri"]).query)["id"][0]
+
+
+def followed(method, params, root):
     """What a person follows of a task: which document is checked, or what is found in a target. Else nothing."""
     if method == "build/taskStart" and "message" in params:
         return f"checking {params['message'].removeprefix(root)}"
@@ -131,7 +145,7 @@ def followed(method, params, root, names):
     found = f"{counted(report['errors'], 'error')}, {counted(report['warnings'], 'warning')}"
     if report.get("noOp"):
         found = "up to date" if found == "0 errors, 0 warnings" else f"up to date, {found}"
-    return f"{names[report['target']['uri']]}: {found}"
+    return f"{name_in(report['target'])}: {found}"
 
 
 class Client:
@@ -143,8 +157,6 @@ class Client:
         self.is_whole = is_whole
         self.last_id = 0
         self.targets = []
-        # The names of the targets, by their ids.
-        self.names = {}
         # What is shown of each document in a target, by the paths of the documents and the ids of the targets.
         self.table = {}
 
@@ -213,7 +225,7 @@ class Client:
             self.keep(params)
         if self.is_whole or not method.startswith("build/task"):
             self.show("server", method, params, self.lines_of(message))
-        elif line := followed(method, params, self.folder.as_uri() + "/", self.names):
+        elif line := followed(method, params, self.folder.as_uri() + "/"):
             self.show("server", line, params)
 
     def keep(self, params):
@@ -228,15 +240,22 @@ class Client:
         return file.relative_to(self.folder)
 
     def lines_of(self, message):
-        """What a publication says."""
+        """What a publication says, or which targets changed."""
+        params = message.get("params")
+        if message.get("method") == "buildTarget/didChange":
+            return [f"{CHANGES[change['kind']]} {name_in(change['target'])}" for change in params["changes"]]
         if message.get("method") != "build/publishDiagnostics":
             return []
-        params = message["params"]
         path = self.path_of(params)
         file = self.folder / path
         text = file.read_bytes().decode(errors="replace") if file.is_file() else ""
         lines = [line for diagnostic in params["diagnostics"] for line in shown(diagnostic, path, text)]
         return lines or [f"{path} has no errors any more"]
+
+    def look_up_targets(self):
+        """Asks for all targets, which compiles are of from then on."""
+        told = self.request("workspace/buildTargets")
+        self.targets = [target["id"] for target in told["result"]["targets"]]
 
     def notify(self, method):
         self.send(self.told(method))
@@ -319,6 +338,32 @@ def show_fault(client, path, note, right, wrong):
     compile_all(client, f"{module.name} is mended:")
 
 
+def reread(client, file, text, note):
+    """Writes the workspace file, has it read again, and compiles what it describes."""
+    file.write_text(text)
+    head(client, note)
+    if "error" in client.request("workspace/reload"):
+        sys.exit("the reload is refused")
+    client.look_up_targets()
+    compile_all(client, "all targets that there are now:")
+
+
+def show_reloads(client):
+    """Shows what becomes of a workspace whose file gets a module and a target more, and loses them again."""
+    file = client.folder / "oberon-build.json"
+    text = file.read_text()
+    workspace = json.loads(text)
+    path, module = ADDED_MODULE
+    [target] = [target for target in workspace["targets"] if target["name"] == ADDED_TO]
+    target["modules"].append(path)
+    workspace["targets"].append(ADDED_TARGET)
+    (client.folder / path).write_text(module)
+    (client.folder / "garden").mkdir()
+    (client.folder / "garden/Trees.Mod").write_text(TREES)
+    reread(client, file, json.dumps(workspace), f"{ADDED_TO} gets a module more, and there is a target more:")
+    reread(client, file, text, "the workspace file is as it was:")
+
+
 def show_session(client):
     client.request(
         "build/initialize",
@@ -330,15 +375,14 @@ def show_session(client):
             "capabilities": {"languageIds": ["oberon"]},
         },
     )
-    told = client.request("workspace/buildTargets")
-    client.targets = [target["id"] for target in told["result"]["targets"]]
-    client.names = {target["id"]["uri"]: target["displayName"] for target in told["result"]["targets"]}
+    client.look_up_targets()
     client.request("buildTarget/sources", {"targets": client.targets})
     compile_all(client, "the workspace as it is:")
     compile_all(client, "nothing changed:")
     for fault in FAULTS:
         show_fault(client, *fault)
     show_cancels(client)
+    show_reloads(client)
     client.request("build/shutdown")
     client.notify("build/exit")
 

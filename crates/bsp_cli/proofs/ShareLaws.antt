@@ -77,6 +77,7 @@ others_numbered number (job ∷ jobs) none =
 
 awaits_phase : (phase : Phase) (jobs given number : ℕ) → AwaitsPhase phase jobs (suc given) number → (number ≡ given) ⊎ AwaitsPhase phase jobs given number
 awaits_phase (phases.Opening root) jobs given number awaits = absurd awaits
+awaits_phase phases.Rereading jobs given number awaits = absurd awaits
 awaits_phase (phases.Planned plan) jobs given number awaits = absurd awaits
 awaits_phase (phases.Built b origin) jobs given number (k, is, below, pair, runs) = by (cases_lt number given)
   where

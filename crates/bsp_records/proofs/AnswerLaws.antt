@@ -9,10 +9,15 @@ use Rattle.serde_json.specs.Data.{Data, string, boolean}
 use Rattle.serde_json.specs.Written.{compact_text}
 use Rattle.bsp_records.specs.Results.{target_data, target_capabilities_data, build_target_data, build_targets_result_data, source_item_kind_data, source_item_data, sources_item_data, sources_result_data, inverse_sources_result_data}
 use Rattle.bsp_address.specs.Address.{address_limit}
+use Rattle.bsp_records.specs.Notices.{did_change_params_data, event_data, event_kind_data}
 use Rattle.ob_text.specs.Ascii.{IsGraphic, IsGraphicWithin}
-use Rattle.bsp_records.specs.ShortAnswers.{IsShortIdentifier, IsShortTarget, IsShortTargets, IsShortSource, IsShortSourcesItem, IsShortSources, IsShortInverseSources, answer_limit}
+use Rattle.bsp_records.specs.ShortAnswers.{IsShortIdentifier, IsShortTarget, IsShortTargets, IsShortSource, IsShortSourcesItem, IsShortSources, IsShortInverseSources, IsShortChange, IsShortEvent, answer_limit}
 use Rattle.bsp_records.specs.Writing.{array_with}
 use Rattle.bsp_records.specs.declared.identifiers.BuildTargetIdentifier.{BuildTargetIdentifier}
+use Rattle.bsp_records.specs.declared.notices.BuildTargetEvent.{BuildTargetEvent}
+use Rattle.bsp_records.specs.declared.notices.BuildTargetEventKind.{BuildTargetEventKind}
+use Rattle.bsp_records.specs.declared.notices.BuildTargetEventKind.TheVariants.{Created, Changed, Deleted}
+use Rattle.bsp_records.specs.declared.notices.DidChangeParams.{DidChangeParams}
 use Rattle.bsp_records.specs.declared.results.BuildTarget.{BuildTarget}
 use Rattle.bsp_records.specs.declared.results.BuildTargetCapabilities.{BuildTargetCapabilities}
 use Rattle.bsp_records.specs.declared.results.BuildTargetsResult.{BuildTargetsResult}
@@ -161,3 +166,25 @@ inverse_sources_short r short =
 
 pub inverse_sources_print : (d : Data) (r : InverseSourcesResult) → d ≡ inverse_sources_result_data r → IsShortInverseSources r → length (compact_text d) ≤ answer_limit
 inverse_sources_print d r is short = subst (λ e. length (compact_text e) ≤ answer_limit) (sym is) (inverse_sources_short r short)
+
+-- ---- targets that changed
+
+event_kind_short : (kind : BuildTargetEventKind) → length (compact_text (event_kind_data kind)) ≤ 10
+event_kind_short Created = number_short 1 (omega arith)
+event_kind_short Changed = number_short 2 (omega arith)
+event_kind_short Deleted = number_short 3 (omega arith)
+
+event_short : (e : BuildTargetEvent) → IsShortEvent e → length (compact_text (event_data e)) < 9000
+event_short e short =
+    let whole = object_short ((codes "target", Some (target_data e.target)) ∷ (codes "kind", Some (event_kind_data e.kind)) ∷ []) in
+    let target = identifier_short e.target short in
+    let kind = event_kind_short e.kind in
+    omega arith
+
+pub changes_print : (p : DidChangeParams) → IsShortChange p → length (compact_text (did_change_params_data p)) ≤ answer_limit
+changes_print p short =
+    let whole = object_short ((codes "changes", Some (array_with (map event_data p.changes))) ∷ []) in
+    let list = array_short (map event_data p.changes) in
+    let items = list_room event_data IsShortEvent 9000 event_short p.changes short.changes in
+    let count = short.count in
+    omega arith

@@ -5,7 +5,7 @@ use Rattle.std.specs.Cmp.Lexicographic.{pointwise}
 use Rattle.std.specs.List.{All, find}
 use Rattle.std.specs.Str.{IsUtf8}
 use Rattle.serde_json.specs.Data.{Data, null}
-use Rattle.bsp_records.specs.Params.{initialize_params, initialize_params_in, targets_params, sources_params_in, inverse_sources_params, inverse_sources_params_in, build_params, compile_params_in, IsTarget, HasInitializeTexts, HasCompileTexts}
+use Rattle.bsp_records.specs.Params.{initialize_params, initialize_params_in, targets_params, sources_params_in, inverse_sources_params, inverse_sources_params_in, build_params, compile_params_in, clean_cache_params_in, IsTarget, HasInitializeTexts, HasCompileTexts}
 use Rattle.json_shape.specs.Shapes.{Shape}
 use Rattle.bsp_records.specs.Reading.{bad_params}
 use Rattle.json_shape.specs.declared.bad_value.BadValue.{BadValue}
@@ -21,14 +21,16 @@ abbrev pub method_name : Method → List ℕ
 method_name methods.Initialize = codes "build/initialize"
 method_name methods.Shutdown = codes "build/shutdown"
 method_name methods.BuildTargets = codes "workspace/buildTargets"
+method_name methods.Reload = codes "workspace/reload"
 method_name methods.Sources = codes "buildTarget/sources"
 method_name methods.InverseSources = codes "buildTarget/inverseSources"
 method_name methods.Compile = codes "buildTarget/compile"
+method_name methods.CleanCache = codes "buildTarget/cleanCache"
 
 abbrev pub answered_methods : List Method
 answered_methods =
-    methods.Initialize ∷ methods.Shutdown ∷ methods.BuildTargets
-    ∷ methods.Sources ∷ methods.InverseSources ∷ methods.Compile ∷ []
+    methods.Initialize ∷ methods.Shutdown ∷ methods.BuildTargets ∷ methods.Reload
+    ∷ methods.Sources ∷ methods.InverseSources ∷ methods.Compile ∷ methods.CleanCache ∷ []
 
 -- the method that has this name, if any
 unfoldable pub method_named : List ℕ → Option Method
@@ -51,9 +53,11 @@ abbrev pub request_in : Method → Option Data → Result Request (List ℕ)
 request_in methods.Initialize params = asked_with initialize_params (λ d. requests.Initialize (initialize_params_in d)) params
 request_in methods.Shutdown params = Ok requests.Shutdown
 request_in methods.BuildTargets params = Ok requests.BuildTargets
+request_in methods.Reload params = Ok requests.Reload
 request_in methods.Sources params = asked_with targets_params (λ d. requests.Sources (sources_params_in d)) params
 request_in methods.InverseSources params = asked_with inverse_sources_params (λ d. requests.InverseSources (inverse_sources_params_in d)) params
 request_in methods.Compile params = asked_with build_params (λ d. requests.Compile (compile_params_in d)) params
+request_in methods.CleanCache params = asked_with targets_params (λ d. requests.CleanCache (clean_cache_params_in d)) params
 
 -- What was read is the request that was asked, and a refusal has the path. Want of memory says nothing.
 abbrev pub ReadsAs : Result Request (List ℕ) → Result Request BadValue → Type 0
@@ -67,6 +71,8 @@ abbrev pub HasRequestTexts : Request → Type 0
 HasRequestTexts (requests.Initialize p) = HasInitializeTexts p
 HasRequestTexts requests.Shutdown = Unit {0}
 HasRequestTexts requests.BuildTargets = Unit {0}
+HasRequestTexts requests.Reload = Unit {0}
 HasRequestTexts (requests.Sources p) = All IsTarget p.targets
 HasRequestTexts (requests.InverseSources p) = IsUtf8 p.text_document.uri
 HasRequestTexts (requests.Compile p) = HasCompileTexts p
+HasRequestTexts (requests.CleanCache p) = All IsTarget p.targets

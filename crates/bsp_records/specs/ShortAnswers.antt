@@ -5,6 +5,8 @@ use Rattle.ob_text.specs.Ascii.{IsGraphicWithin}
 use Rattle.std.specs.List.{All}
 use Rattle.bsp_address.specs.Address.{IsAddress}
 use Rattle.bsp_records.specs.declared.identifiers.BuildTargetIdentifier.{BuildTargetIdentifier}
+use Rattle.bsp_records.specs.declared.notices.BuildTargetEvent.{BuildTargetEvent}
+use Rattle.bsp_records.specs.declared.notices.DidChangeParams.{DidChangeParams}
 use Rattle.bsp_records.specs.declared.results.BuildTarget.{BuildTarget}
 use Rattle.bsp_records.specs.declared.results.BuildTargetsResult.{BuildTargetsResult}
 use Rattle.bsp_records.specs.declared.results.InverseSourcesResult.{InverseSourcesResult}
@@ -57,6 +59,19 @@ pub record IsShortInverseSources (r : InverseSourcesResult) : Type 0 where
   pub count : length r.targets ≤ answered_targets_limit
   pub targets : All IsShortIdentifier r.targets
 
--- the most bytes that a short answer prints as
+-- ---- targets that changed
+
+abbrev pub IsShortEvent : BuildTargetEvent → Type 0
+IsShortEvent e = IsShortIdentifier e.target
+
+-- the most changes that are told at once: those of all targets of two workspaces
+abbrev pub changes_limit : ℕ
+changes_limit = 512
+
+pub record IsShortChange (p : DidChangeParams) : Type 0 where
+  pub count : length p.changes ≤ changes_limit
+  pub changes : All IsShortEvent p.changes
+
+-- the most bytes that a short answer prints as, and a short change
 abbrev pub answer_limit : ℕ
 answer_limit = 16000000

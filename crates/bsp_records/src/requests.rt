@@ -7,8 +7,9 @@ ghost use Rattle.bsp_records.specs.Requests.{method_named, method_name, request_
 
 use crate::BadParams;
 use crate::params::{
-    CompileParams, InitializeParams, InverseSourcesParams, SourcesParams, read_compile_params,
-    read_initialize_params, read_inverse_sources_params, read_sources_params,
+    CleanCacheParams, CompileParams, InitializeParams, InverseSourcesParams, SourcesParams,
+    read_clean_cache_params, read_compile_params, read_initialize_params,
+    read_inverse_sources_params, read_sources_params,
 };
 use serde_json::Value;
 use std::alloc::Global;
@@ -22,12 +23,16 @@ pub enum Method {
     Shutdown,
     /// workspace/buildTargets
     BuildTargets,
+    /// workspace/reload
+    Reload,
     /// buildTarget/sources
     Sources,
     /// buildTarget/inverseSources
     InverseSources,
     /// buildTarget/compile
     Compile,
+    /// buildTarget/cleanCache
+    CleanCache,
 }
 
 /// A request with its params. Those without params here ignore what was sent with them.
@@ -36,9 +41,11 @@ pub enum Request {
     Initialize(InitializeParams),
     Shutdown,
     BuildTargets,
+    Reload,
     Sources(SourcesParams),
     InverseSources(InverseSourcesParams),
     Compile(CompileParams),
+    CleanCache(CleanCacheParams),
 }
 
 impl Method {
@@ -53,12 +60,16 @@ impl Method {
             Some(Method::Shutdown)
         } else if b"workspace/buildTargets".as_slice() == name {
             Some(Method::BuildTargets)
+        } else if b"workspace/reload".as_slice() == name {
+            Some(Method::Reload)
         } else if b"buildTarget/sources".as_slice() == name {
             Some(Method::Sources)
         } else if b"buildTarget/inverseSources".as_slice() == name {
             Some(Method::InverseSources)
         } else if b"buildTarget/compile".as_slice() == name {
             Some(Method::Compile)
+        } else if b"buildTarget/cleanCache".as_slice() == name {
+            Some(Method::CleanCache)
         } else {
             None
         }
@@ -93,6 +104,7 @@ pub fn read_request(
         },
         Method::Shutdown => Ok(Request::Shutdown),
         Method::BuildTargets => Ok(Request::BuildTargets),
+        Method::Reload => Ok(Request::Reload),
         Method::Sources => match read_sources_params(alloc, &params) {
             Ok(params) => Ok(Request::Sources(params)),
             Err(bad) => Err(bad),
@@ -103,6 +115,10 @@ pub fn read_request(
         },
         Method::Compile => match read_compile_params(alloc, &params) {
             Ok(params) => Ok(Request::Compile(params)),
+            Err(bad) => Err(bad),
+        },
+        Method::CleanCache => match read_clean_cache_params(alloc, &params) {
+            Ok(params) => Ok(Request::CleanCache(params)),
             Err(bad) => Err(bad),
         },
     }

@@ -4,5 +4,6 @@ pub mod FactLaws
 pub mod KeptLaws
 pub mod KnownLaws
 pub mod ListLaws
+pub mod LookLaws
 pub mod NumberLaws
 pub mod StandLaws

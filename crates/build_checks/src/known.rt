@@ -6,7 +6,7 @@ use check_cache::{Cache, PairKey};
 use indexmap::IndexMap;
 use ob_text::{Held, Name, NoMemory, Path};
 use std::alloc::Global;
-use target_graph::{Pair, Workspace};
+use target_graph::{Pair, Target, Workspace};
 
 /// For each entry of a snapshot in order the names that its document imports, where a check of the same text is kept.
 pub(crate) fn known_imports<'a>(
@@ -19,9 +19,10 @@ pub(crate) fn known_imports<'a>(
 {
     let places = places_of(alloc, entries)?;
     let mut known = nothing(alloc, entries.len())?;
+    let targets = workspace.targets();
     for pair in workspace.pairs() {
         match places.get(&pair.path) {
-            Some(place) => learn(alloc, cache, pair, entries, *place, &mut known)?,
+            Some(place) => learn(alloc, cache, targets, pair, entries, *place, &mut known)?,
             None => {}
         }
     }
@@ -52,18 +53,20 @@ fn places_of(alloc: Global, entries: &[(Path, Held)]) -> Result<IndexMap<Path, u
 fn learn<'a>(
     alloc: Global,
     cache: &'a Cache,
+    targets: &[Target],
     pair: &Pair,
     entries: &[(Path, Held)],
     place: usize,
     known: &mut Vec<Option<&'a [Name]>>,
 ) -> Result<(), NoMemory>
+    requires target { pair.now.target < length targets.now }
     requires sized { length known.old.items ≡ length entries.now }
     requires known { AreKnown entries.now known.old.items }
     ensures sized { length known.new.items ≡ length entries.now }
     ensures known { AreKnown entries.now known.new.items }
 {
     if place < entries.len() {
-        let key = PairKey::of(alloc, pair)?;
+        let key = PairKey::of(alloc, targets, pair)?;
         let names = learned(cache, &key, &entries[place].1, known[place]);
         put(place, names, known);
     }

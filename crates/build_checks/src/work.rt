@@ -1,6 +1,7 @@
 ghost use Rattle.std.specs.Prelude.{◌≡◌, ℕ, List, IfOk, IfSome, Contains};
 ghost use Rattle.check_cache.specs.Facts.{names_of};
 ghost use Rattle.oberon_module.specs.Reading.{IsRead};
+ghost use Rattle.target_graph.specs.Workspace.{stem_at};
 ghost use Rattle.worker_pool.specs.Jobs.{plain_check};
 ghost use Rattle.build_rules.specs.World.{held_in};
 ghost use Rattle.build_sources.specs.Documents.{AreImportsOf};
@@ -26,6 +27,15 @@ impl Checks {
         ensures { IfOk result (λ held. held.value ≡ held_in (world_of self.now) index) }
     {
         Ok(self.sources.document(index).held.clone()?)
+    }
+
+    /// The stem of a module's path.
+    pub fn stem(&self, index: u32) -> Result<Name, NoMemory>
+        requires checks { AreChecks self.now }
+        requires among { Contains (modules_of self.now) index }
+        ensures { IfOk result (λ stem. stem ≡ stem_at (world_of self.now).targets index) }
+    {
+        self.sources.stem(self.alloc, index)
     }
 
     /// The check of a module by what its imports show, to be made by whoever has it. It shares what is held and what was

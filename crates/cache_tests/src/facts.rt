@@ -16,9 +16,9 @@ use std::sync::Arc;
 use std::test::Fail;
 
 /// The key of a pair.
-pub fn pair(alloc: Global, target: u32, path: &str) -> Result<PairKey, Fail> {
+pub fn pair(alloc: Global, target: &str, path: &str) -> Result<PairKey, Fail> {
     Ok(PairKey {
-        target,
+        target: Name::new(alloc, target.as_bytes())?,
         path: Path::new(alloc, path.as_bytes())?,
     })
 }

@@ -1,10 +1,10 @@
 //! Modules that import one: by which names and numbers they are found, and what a known text imports.
 use crate::facts::{fact_alone, fact_importing, held_of, pair};
 use check_cache::{Cache, PairKey};
-use ob_text::{Name, Path};
+use ob_text::{Items, Name, Path};
 use std::alloc::Global;
 use std::test::Fail;
-use target_graph::Pair;
+use target_graph::{Pair, Target, TargetKind};
 
 const B: &str = "MODULE B; CONST k* = 1; END B.";
 
@@ -21,7 +21,7 @@ const ROWS: [(&str, u64, bool); 4] = [
 #[test]
 fn finds_by_names_and_numbers(rt: HostRuntime) -> Result<(), Fail> {
     let alloc = rt.alloc();
-    let here = pair(alloc, 0, "A.Mod")?;
+    let here = pair(alloc, "lib", "A.Mod")?;
     let cache = importing_cache(alloc, &here)?;
     let held = held_of(alloc, TEXT)?;
     for (name, number, want) in ROWS {
@@ -40,7 +40,7 @@ fn finds_by_names_and_numbers(rt: HostRuntime) -> Result<(), Fail> {
 #[test]
 fn gives_the_check(rt: HostRuntime) -> Result<(), Fail> {
     let alloc = rt.alloc();
-    let here = pair(alloc, 0, "A.Mod")?;
+    let here = pair(alloc, "lib", "A.Mod")?;
     let cache = importing_cache(alloc, &here)?;
     let held = held_of(alloc, TEXT)?;
     let imports = [(Name::new(alloc, b"B")?, 7)];
@@ -54,7 +54,7 @@ fn gives_the_check(rt: HostRuntime) -> Result<(), Fail> {
 #[test]
 fn knows_what_a_text_imports(rt: HostRuntime) -> Result<(), Fail> {
     let alloc = rt.alloc();
-    let here = pair(alloc, 0, "A.Mod")?;
+    let here = pair(alloc, "lib", "A.Mod")?;
     let cache = importing_cache(alloc, &here)?;
     for (text, want) in [(TEXT, Some("B")), ("MODULE A; END A.", None)] {
         let held = held_of(alloc, text)?;
@@ -78,11 +78,22 @@ fn importing_cache(alloc: Global, here: &PairKey) -> Result<Cache, Fail> {
 #[test]
 fn a_pair_has_a_key(rt: HostRuntime) -> Result<(), Fail> {
     let alloc = rt.alloc();
-    let of_workspace = Pair {
-        target: 3,
+    let targets = [target(alloc, "lib")?, target(alloc, "app")?];
+    let of_app = Pair {
+        target: 1,
         path: Path::new(alloc, b"A.Mod")?,
     };
-    let key = PairKey::of(alloc, &of_workspace)?;
-    assert_eq!(rt; key, pair(alloc, 3, "A.Mod")?);
+    let key = PairKey::of(alloc, &targets, &of_app)?;
+    assert_eq!(rt; key, pair(alloc, "app", "A.Mod")?);
     Ok(())
+}
+
+fn target(alloc: Global, name: &str) -> Result<Target, Fail> {
+    Ok(Target {
+        name: Name::new(alloc, name.as_bytes())?,
+        kind: TargetKind::Library,
+        modules: Items::from_vec(Vec::new(alloc)),
+        dependencies: Items::from_vec(Vec::new(alloc)),
+        main: None,
+    })
 }

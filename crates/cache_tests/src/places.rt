@@ -30,7 +30,7 @@ const ROWS: [(&str, &str); 9] = [
 fn finds_two_texts_of_a_pair(rt: HostRuntime) -> Result<(), Fail> {
     let alloc = rt.alloc();
     for (acts, want) in ROWS {
-        let here = pair(alloc, 0, "A.Mod")?;
+        let here = pair(alloc, "lib", "A.Mod")?;
         let mut cache = Cache::new(alloc);
         put_all(alloc, &mut cache, &here, acts)?;
         assert_eq!(rt; found(alloc, &cache, &here)?.as_str(), want, "{acts:?}");
@@ -41,10 +41,10 @@ fn finds_two_texts_of_a_pair(rt: HostRuntime) -> Result<(), Fail> {
 #[test]
 fn finds_nothing_of_other_pairs(rt: HostRuntime) -> Result<(), Fail> {
     let alloc = rt.alloc();
-    let here = pair(alloc, 0, "A.Mod")?;
+    let here = pair(alloc, "lib", "A.Mod")?;
     let mut cache = Cache::new(alloc);
     put_all(alloc, &mut cache, &here, "0b")?;
-    for (target, path) in [(1, "A.Mod"), (0, "B.Mod"), (0, "A.Mo")] {
+    for (target, path) in [("app", "A.Mod"), ("lib", "B.Mod"), ("lib", "A.Mo")] {
         let there = pair(alloc, target, path)?;
         assert_eq!(rt; found(alloc, &cache, &there)?.as_str(), "000", "{path:?}");
     }
@@ -61,31 +61,16 @@ fn three_pairs(alloc: Global) -> Result<Cache, Fail> {
     Ok(cache)
 }
 
-const PAIRS: [(u32, &str); 3] = [(0, "A.Mod"), (0, "B.Mod"), (1, "A.Mod")];
-
-#[test]
-fn forgets_targets(rt: HostRuntime) -> Result<(), Fail> {
-    let alloc = rt.alloc();
-    for (targets, want) in [
-        ([2, 3], "110110110"),
-        ([0, 2], "000000110"),
-        ([1, 0], "000000000"),
-    ] {
-        let mut cache = three_pairs(alloc)?;
-        cache.drop_targets(&targets);
-        assert_eq!(rt; found_of_all(alloc, &cache)?.as_str(), want);
-    }
-    Ok(())
-}
+const PAIRS: [(&str, &str); 3] = [("lib", "A.Mod"), ("lib", "B.Mod"), ("app", "A.Mod")];
 
 #[test]
 fn keeps_pairs(rt: HostRuntime) -> Result<(), Fail> {
     let alloc = rt.alloc();
     for (target, path, want) in [
-        (0, "A.Mod", "110000000"),
-        (0, "B.Mod", "000110000"),
-        (1, "A.Mod", "000000110"),
-        (1, "B.Mod", "000000000"),
+        ("lib", "A.Mod", "110000000"),
+        ("lib", "B.Mod", "000110000"),
+        ("app", "A.Mod", "000000110"),
+        ("app", "B.Mod", "000000000"),
     ] {
         let mut cache = three_pairs(alloc)?;
         let mut kept = IndexSet::new(alloc);

@@ -155,7 +155,7 @@ module _ (past : List Event) (lawful : EachAllowed past) (g : Given) (id : Id) (
 
   answered_second : Mid plain_second AnyBuilds first_alone second_answered
   answered_second =
-      mid_cancelled plain_second AnyBuilds second_marked second_taken took_second [] [] (record waits { cancelled = true }) refl targets origin refl refl (All-nil IsUnmarked) refl framed_second
+      mid_cancelled plain_second AnyBuilds second_marked second_taken took_second [] [] (record waits { cancelled = true }) refl (to_build targets origin) refl refl (All-nil IsUnmarked) refl framed_second
 
   -- what was told stands as it was
   told_still : (after second_answered).notices ≡ told

@@ -1,12 +1,11 @@
 -- What a map has where some entries were taken out by their keys.
-use Rattle.std.proofs.Common.{◌≡◌, ◌∙◌, ℕ, Bool, true, false, List, [], ◌∷◌, filter, Option, None, refl, ap}
-use Rattle.std.specs.Prelude.{◌==◌, ◌&&◌, if◌then◌else◌, not}
+use Rattle.std.proofs.Common.{◌≡◌, ◌∙◌, Bool, true, false, List, [], ◌∷◌, filter, Option, None, refl, ap}
+use Rattle.std.specs.Prelude.{◌&&◌, if◌then◌else◌}
 use Rattle.std.specs.Map.{lookup}
 use Rattle.std.specs.Str.{bytes_eq}
-use Rattle.std.proofs.lemmas.Bool.Decides.{Decides-eqb}
 use Rattle.std.proofs.lemmas.Slice.Eq.{bytes_eq-Decides}
 use Rattle.indexmap.specs.IndexMap.{IndexMap, get}
-use Rattle.check_cache.specs.Pairs.{same_pair, has_target, is_among}
+use Rattle.check_cache.specs.Pairs.{same_pair, is_among}
 use Rattle.check_cache.specs.contracts.pair.PairKeyPartialEq.TheImpl.{eq-value}
 use Rattle.check_cache.specs.declared.pair.PairKey.{PairKey}
 
@@ -24,9 +23,9 @@ parts_same a b target path = rw (target, path) refl
 -- what is tested alike is one pair
 pub one_pair : (a b : PairKey) → same_pair a b ≡ true → a ≡ b
 one_pair a b h =
-    let target_is = a.target == b.target in
+    let target_is = bytes_eq a.target b.target in
     let path_is = bytes_eq a.path b.path in
-    parts_same a b ((Decides-eqb a.target b.target).0 (left_true target_is path_is h)) ((bytes_eq-Decides a.path b.path).0 (right_true target_is path_is h))
+    parts_same a b ((bytes_eq-Decides a.target b.target).0 (left_true target_is path_is h)) ((bytes_eq-Decides a.path b.path).0 (right_true target_is path_is h))
 
 module _ {X : Type 0} (test : PairKey → Bool) (q : PairKey) where
   step : (e : PairKey × X) (es : List (PairKey × X)) → lookup (same_pair q) (filter (λ (e : PairKey × X). test e.0) es) ≡ (if test q then lookup (same_pair q) es else None)
@@ -49,17 +48,7 @@ module _ {X : Type 0} (test : PairKey → Bool) (q : PairKey) where
       elim (test q) as (λ b. none ≡ (if b then none else none)) [ true ↦ refl | false ↦ refl ]
   lookup_filter (e ∷ es) = step e es (lookup_filter es) (test e.0) refl (same_pair q e.0) refl
 
-flipped : {X : Type 0} (b : Bool) (x : Option X) → (if not b then x else None) ≡ (if b then None else x)
-flipped true x = refl
-flipped false x = refl
-
 module _ {X S : Type 0} (old new : IndexMap PairKey X S) (q : PairKey) where
-  -- the pairs of some targets were taken out
-  pub dropped : (targets : List ℕ) → new.entries ≡ filter (λ (e : PairKey × X). not (has_target targets e.0)) old.entries
-      → get eq-value.it new q ≡ (if has_target targets q then None else get eq-value.it old q)
-  dropped targets is =
-      ap (λ (es : List (PairKey × X)). lookup (same_pair q) es) is ∙ (lookup_filter (λ k. not (has_target targets k)) q old.entries ∙ flipped (has_target targets q) (lookup (same_pair q) old.entries))
-
   -- all pairs but some were taken out
   pub kept : (pairs : List PairKey) → new.entries ≡ filter (λ (e : PairKey × X). is_among pairs e.0) old.entries
       → get eq-value.it new q ≡ (if is_among pairs q then get eq-value.it old q else None)

@@ -1,13 +1,13 @@
 ghost use Rattle.std.specs.Prelude.{◌≡◌, Some, None, if◌then◌else◌, IfOk, IfSome, IfNone, OnOk, OnErr};
 ghost use Rattle.check_cache.specs.Facts.{FactTree, IsFact};
-ghost use Rattle.check_cache.specs.Pairs.{same_pair, has_target, is_among};
+ghost use Rattle.check_cache.specs.Pairs.{same_pair, is_among};
 ghost use Rattle.check_cache.specs.Places.{first_at, other_at, Lacks, Chosen, SamePlaces, moved};
 ghost use Rattle.check_cache.specs.Wanted.{HasText, IsOf};
 ghost use Rattle.check_cache.specs.declared.pair.PairKey.{PairKey};
 
 use crate::choosing::{fitting, of_text};
 use crate::fact::Fact;
-use crate::keeping::{drop_of, keep_of};
+use crate::keeping::keep_of;
 use crate::pair::PairKey;
 use indexmap::{IndexMap, IndexSet};
 use ob_text::{Held, Name, NoMemory};
@@ -122,17 +122,6 @@ impl Cache {
         let late = pair.copy(self.alloc)?;
         self.other.insert(late, fact)?;
         Ok(())
-    }
-
-    /// Forgets all facts of these targets. Takes no memory, and a step for each fact and each of these targets.
-    pub fn drop_targets(&mut self, targets: &[u32])
-        ensures first { (q : PairKey) → first_at self.new q
-            ≡ (if has_target targets.now q then None else first_at self.old q) }
-        ensures other { (q : PairKey) → other_at self.new q
-            ≡ (if has_target targets.now q then None else other_at self.old q) }
-    {
-        drop_of(&mut self.first, targets);
-        drop_of(&mut self.other, targets);
     }
 
     /// Forgets all facts but those of these pairs. Takes no memory, and one hash for each fact.

@@ -1,26 +1,9 @@
-ghost use Rattle.std.specs.Prelude.{◌≡◌, not, filter};
-ghost use Rattle.check_cache.specs.Pairs.{has_target, is_among};
+ghost use Rattle.std.specs.Prelude.{◌≡◌, filter};
+ghost use Rattle.check_cache.specs.Pairs.{is_among};
 
 use crate::fact::Fact;
 use crate::pair::PairKey;
 use indexmap::{IndexMap, IndexSet};
-
-/// Takes out what is kept of the pairs of these targets.
-pub fn drop_of(map: &mut IndexMap<PairKey, Fact>, targets: &[u32])
-    ensures { map.new.entries ≡ filter (λ e. not (has_target targets.now e.0)) map.old.entries }
-{
-    map.retain(
-        |key: &PairKey, fact: &mut Fact| -> bool
-            ensures { (result ≡ not (has_target targets.entry.now key.now)) × (fact.new ≡ fact.old) }
-        { !has_target(targets, key) },
-    );
-}
-
-fn has_target(targets: &[u32], key: &PairKey) -> bool
-    ensures { result ≡ has_target targets.now key.now }
-{
-    targets.iter().any(|target| *target == key.target)
-}
 
 /// Takes out what is kept of all pairs but these.
 pub fn keep_of(map: &mut IndexMap<PairKey, Fact>, pairs: &IndexSet<PairKey>)

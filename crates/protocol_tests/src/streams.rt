@@ -115,3 +115,19 @@ fn publishes_in_pieces_what_is_not_shown(rt: HostRuntime) -> Result<(), Fail> {
     }
     Ok(())
 }
+
+/// A list that is shown is cleared by an empty one, and then nothing is to be cleared any more.
+#[test]
+fn clears_what_is_shown(rt: HostRuntime) -> Result<(), Fail> {
+    let alloc = rt.alloc();
+    let mut shown = Shown::new(alloc);
+    let _pieces = publish(alloc, &mut shown, 1)?;
+    let key = key(alloc)?;
+    let pieces = shown.clear(&key)?;
+    assert_eq!(rt; pieces.len(), 1);
+    for piece in pieces.iter() {
+        assert!(rt; is_piece(alloc, piece, true, 0)?);
+    }
+    assert!(rt; shown.clear(&key)?.is_empty());
+    Ok(())
+}

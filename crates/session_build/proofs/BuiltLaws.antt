@@ -22,7 +22,7 @@ use Rattle.session_build.specs.declared.going.Going.{Going}
 use Rattle.session_build.specs.declared.going.Made.{Made}
 use Rattle.session_build.specs.declared.kept.Kept.{Kept}
 use Rattle.session_build.specs.declared.setting.Setting.{Setting}
-use Rattle.session_build.proofs.EndedLaws.{Ends, going_ends, made_checked, not_made_unchecked}
+use Rattle.session_build.proofs.EndedLaws.{Ends, ended_within, going_ends, made_checked, not_made_unchecked}
 use Rattle.session_build.proofs.LateLaws.{late_more}
 use Rattle.session_build.proofs.StoredLaws.{AreMade, stored_more}
 use Rattle.target_graph.specs.Workspace.{Space}
@@ -44,10 +44,11 @@ module _ (g : Given) (at : Setting) (going : Going) (told : List Said) (keys : L
     each = subst (λ (w : World). All (λ (it : Made). IsKept keys w it.pair it.fact) going.made.items) is.agrees.world_is is.made;
     checked = made_checked g at going told (ends_said at going.tallies.items) keys table is;
     unchecked = not_made_unchecked at.workspace.value setting.apart g is.of_setting.are.documents is.of_setting.space fit ends;
+    within = ended_within g is.of_setting.are.documents at.workspace.value is.of_setting.space fit ends;
   }
 
   pub built : (kept : Kept) (later : Cache) → All IsFramed (ends_said at going.tallies.items) → RemembersChecks at.workspace.value g.earlier kept.cache keys
-      → AreLate keys at.workspace.value g.earlier kept.late.items → (AllPairs ◌≢◌ (pairs_made going.made.items) → StoresAll at.workspace.value going.made.items kept.cache later)
+      → AreLate keys at.workspace.value.root g.earlier kept.late.items → (AllPairs ◌≢◌ (pairs_made going.made.items) → StoresAll at.workspace.value going.made.items kept.cache later)
       → IsBuilt g.active g.earlier g.table table (record kept { cache = later; keys = keys }) (told ++ ends_said at going.tallies.items) (list_any has_errors going.tallies.items)
   built kept later framed remembers late stores = record {
     given = g;
@@ -67,7 +68,7 @@ module _ (g : Given) (at : Setting) (going : Going) (told : List Said) (keys : L
     remembers =
         subst (λ (w : Space). Remembers w (told_by g (told ++ ends_said at going.tallies.items) ∷ g.earlier) (record kept { cache = later; keys = keys })) (sym is.of_setting.space)
         (record {
-          checks = stored_more at.workspace.value g is.of_setting.space (told ++ ends_said at going.tallies.items) keys kept.cache later going.made.items remembers stores made_are;
-          late = late_more keys at.workspace.value (told_by g (told ++ ends_said at going.tallies.items)) g.earlier kept.late.items late;
+          checks = stored_more at.workspace.value (record { apart = setting.apart; once = setting.once }) g is.of_setting.space (told ++ ends_said at going.tallies.items) keys kept.cache later going.made.items remembers stores made_are;
+          late = late_more keys at.workspace.value.root (told_by g (told ++ ends_said at going.tallies.items)) g.earlier kept.late.items late;
         });
   }

@@ -9,18 +9,20 @@ use Rattle.rpc_peer.specs.Said.{Said}
 use Rattle.session_law.specs.Builds.{Finding, IsFound, Shows}
 use Rattle.session_law.specs.Cancelling.{IsCancelledBy, IsUnfinished}
 use Rattle.session_law.specs.Course.{Given, pairs_in}
-use Rattle.session_law.specs.History.{Told, world_in}
+use Rattle.session_law.specs.History.{HasStarted, Told, world_in}
 use Rattle.session_law.specs.ShowsOldOrNew.{ShowsEither, ShowsFound, ShowsSame}
 use Rattle.session_law.specs.declared.BuildDocument.{BuildDocument}
-use Rattle.session_law.proofs.CancelLaws.{not_checked_cancelled}
+use Rattle.session_law.proofs.CancelLaws.{cancelled_started, not_checked_cancelled}
+use Rattle.session_law.proofs.ClosureLaws.{one_target}
 use Rattle.session_law.proofs.CourseLaws.{one_pair}
+use Rattle.session_law.proofs.HistoryLaws.{key_same}
 use Rattle.session_law.proofs.ListLaws.{contains_at, contains_map, contains_map_back}
 use Rattle.session_law.proofs.StageLaws.{stage_sound}
 use Rattle.session_law.proofs.StartLaws.{NumbersFit, numbers_fit}
 use Rattle.session_build.specs.Cancels.{cancels_said}
 use Rattle.session_build.specs.Going.{IsGoing, IsOrdered, all_running, pairs_made, running_of, told_by}
 use Rattle.session_build.specs.Late.{AddsLateOf}
-use Rattle.session_build.specs.Remembering.{AreLate, Remembers, RemembersChecks}
+use Rattle.session_build.specs.Remembering.{AreLate, HasDocument, Remembers, RemembersChecks}
 use Rattle.session_build.specs.Setting.{IsSetting}
 use Rattle.session_build.specs.Stages.{IsRunning, Running, pairs_running}
 use Rattle.session_build.specs.Storing.{StoresAll}
@@ -29,12 +31,13 @@ use Rattle.session_build.specs.declared.going.Job.{Job}
 use Rattle.session_build.specs.declared.going.Made.{Made}
 use Rattle.session_build.specs.declared.kept.Kept.{Kept}
 use Rattle.session_build.specs.declared.setting.Setting.{Setting}
-use Rattle.session_build.proofs.DocumentLaws.{among_by, apart_by, key_at}
+use Rattle.session_build.proofs.DocumentLaws.{among_by, apart_by, document_in, key_at}
 use Rattle.session_build.proofs.EndedLaws.{made_checked, pair_by_key}
 use Rattle.session_build.proofs.CancelSteps.{AreLeft, HasJob, cancels_are, cancels_from, course_checks}
 use Rattle.session_build.proofs.LateLaws.{late_cancelled}
 use Rattle.session_build.proofs.StoredLaws.{AreMade, stored_more}
 use Rattle.target_graph.specs.Workspace.{Space}
+use Rattle.task_stream.specs.declared.shown.TableKey.{TableKey}
 
 -- ---- from how far the build is
 
@@ -104,6 +107,15 @@ module _ (g : Given) (at : Setting) (going : Going) (told : List Said) (keys : L
             let own = unfinished_of has.job (running_job has.job has.there) in
             absurd (own.unsettled (subst (Contains (pairs_in is.stage.settled)) (sym has.is) settled))
 
+    -- what a check started of is in the workspace
+    started_within : (key : TableKey) → HasStarted (told_by g (told ++ cancels_said at going.jobs.items)) key → HasDocument at.workspace.value key
+    started_within key was =
+        let from = cancelled_started (cancels ordered) was.j was.i key.document fit (fit key.target was.i was.of_target) was.started in
+        let same : from.document.key ≡ key =
+        key_same from.document.key key from.address_is (one_target g.active from.document.key.target key.target was.i from.of_target was.of_target) in
+        subst (HasDocument at.workspace.value) same
+        (document_in g.active.build g.documents at.workspace.value is.of_setting.are.documents is.of_setting.space from.document from.there)
+
     made_are : AreMade at.workspace.value (told_by g (told ++ cancels_said at going.jobs.items)) keys going.made.items
     unfolding cancels
     made_are = record {
@@ -114,6 +126,7 @@ module _ (g : Given) (at : Setting) (going : Going) (told : List Said) (keys : L
           not_checked_cancelled (cancels ordered) (key_at at.workspace.value p) fit (subst (λ n. n < 2 ^ 64) is.count small) (λ document there begun settled same.
           absent (subst (Contains (pairs_made going.made.items))
           (pair_by_key at.workspace.value setting.apart g is.of_setting.are.documents is.of_setting.space p pair here document there same) (settled_made document.pair begun settled)));
+      within = started_within;
     }
 
     pub cancelled_remembers : (old new : Kept) → old.keys ≡ keys → new.keys ≡ keys → Remembers at.workspace.value g.earlier old
@@ -126,12 +139,12 @@ module _ (g : Given) (at : Setting) (going : Going) (told : List Said) (keys : L
         (record {
           checks =
               subst (RemembersChecks at.workspace.value (now ∷ g.earlier) new.cache) (sym new_keys)
-              (stored_more at.workspace.value g is.of_setting.space (told ++ cancels_said at going.jobs.items) keys old.cache new.cache going.made.items
+              (stored_more at.workspace.value (record { apart = setting.apart; once = setting.once }) g is.of_setting.space (told ++ cancels_said at going.jobs.items) keys old.cache new.cache going.made.items
               (subst (RemembersChecks at.workspace.value g.earlier old.cache) old_keys remembers.checks) stores made_are);
           late =
-              subst (λ ks. AreLate ks at.workspace.value (now ∷ g.earlier) new.late.items) (sym new_keys)
+              subst (λ ks. AreLate ks at.workspace.value.root (now ∷ g.earlier) new.late.items) (sym new_keys)
               (late_cancelled g at going told (cancels_said at going.jobs.items) keys table is g.earlier old.late.items new.late.items adds
-              (subst (λ ks. AreLate ks at.workspace.value g.earlier old.late.items) old_keys remembers.late));
+              (subst (λ ks. AreLate ks at.workspace.value.root g.earlier old.late.items) old_keys remembers.late));
         })
 
   -- ---- what is shown

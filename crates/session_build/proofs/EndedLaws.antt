@@ -1,7 +1,6 @@
 -- Once all documents of a build are settled and its reports are told, its course is whole.
-use Rattle.std.proofs.Common.{◌≡◌, ◌⊎◌, inl, inr, ◌<◌, ◌≤◌, ◌++◌, ℕ, List, [], ◌∷◌, length, get_or, Bool, Option, Some, option_map, refl, sym, ap, subst, ◌∙◌, arith}
+use Rattle.std.proofs.Common.{◌≡◌, ◌⊎◌, inl, inr, ◌++◌, ℕ, List, [], ◌∷◌, length, get_or, Bool, Option, Some, option_map, refl, sym, ap, subst, ◌∙◌}
 use Rattle.std.specs.List.{All, AllPairs, AllZip, Contains, list_any, slice_get}
-use Rattle.std.proofs.lemmas.Bool.{cases_lt}
 use Rattle.std.proofs.lemmas.List.{length-map}
 use Rattle.std.proofs.lemmas.List.Elements.{All-append, All-cons, All-contains, All-map, All-nil, All-weaker, Contains-get_or}
 use Rattle.std.proofs.lemmas.List.Sums.{fold-append}
@@ -11,10 +10,10 @@ use Rattle.build_checks.specs.Stand.{settled_of, taken_of}
 use Rattle.rpc_peer.specs.Said.{Said}
 use Rattle.session_law.specs.Builds.{AreDocuments, CleanBuild, Finding, IsFound, IsPairOf, Shows, build_document, has_error, shown_by, table_behind}
 use Rattle.session_law.specs.Course.{Given, Stage, HasEnded, all_finish, pairs_in}
-use Rattle.session_law.specs.History.{HasChecked, world_in}
+use Rattle.session_law.specs.History.{HasChecked, HasStarted, world_in}
 use Rattle.session_law.specs.declared.BuildDocument.{BuildDocument}
 use Rattle.session_law.proofs.CourseLaws.{one_pair}
-use Rattle.session_law.proofs.HistoryLaws.{checked_still, not_checked}
+use Rattle.session_law.proofs.HistoryLaws.{checked_still, not_checked, started_of}
 use Rattle.session_law.proofs.ListLaws.{contains_at, contains_first, contains_later, contains_map, contains_map_back, contains_none}
 use Rattle.session_law.proofs.PublishedLaws.{IsOther, all_finish_other, filter_none, table_filtered}
 use Rattle.session_law.proofs.StageLaws as sound
@@ -22,6 +21,7 @@ use Rattle.session_law.proofs.StageLaws.{stage_sound}
 use Rattle.session_law.proofs.StartLaws.{NumbersFit}
 use Rattle.session_build.specs.Ending.{ends_said}
 use Rattle.session_build.specs.Going.{GoesThrough, IsGoing, all_running, pairs_made, told_by}
+use Rattle.session_build.specs.Remembering.{HasDocument}
 use Rattle.session_build.specs.Setting.{IsSettingOf}
 use Rattle.session_build.specs.Stages.{IsOnCourse, pairs_running}
 use Rattle.session_build.specs.Tallies.{AreTallied, has_errors}
@@ -30,12 +30,13 @@ use Rattle.session_build.specs.declared.going.Job.{Job}
 use Rattle.session_build.specs.declared.going.Made.{Made}
 use Rattle.session_build.specs.declared.setting.Setting.{Setting}
 use Rattle.session_build.specs.declared.tally.Tally.{Tally}
-use Rattle.session_build.proofs.DocumentLaws.{key_at, keys_apart}
+use Rattle.session_build.proofs.DocumentLaws.{document_in, key_at, one_index}
 use Rattle.session_build.proofs.EndingLaws.{CountsIn, IsTold, documents_in, ends_same, ends_told, failed_same, zipped}
 use Rattle.session_build.proofs.Members.{one_of_image}
 use Rattle.target_graph.specs.Workspace.{Space, pairs_of}
 use Rattle.target_graph.specs.declared.target.Pair.{Pair}
 use Rattle.target_graph.proofs.Distinct.{AreApart}
+use Rattle.task_stream.specs.declared.shown.TableKey.{TableKey}
 
 -- ---- the findings, in the order of the documents
 
@@ -192,23 +193,6 @@ made_checked g at going told more keys table is =
 -- and no other was
 
 module _ (space : Space) (apart : AllPairs (AreApart space) (pairs_of space.targets)) where
-  one_key : (p q : ℕ) (a b : Pair) → slice_get (pairs_of space.targets) p ≡ Some a → slice_get (pairs_of space.targets) q ≡ Some b → key_at space p ≡ key_at space q → p ≡ q
-  one_key p q a b here there same = by (cases_lt p q) (cases_lt q p)
-    where
-      targets : List ℕ
-      targets = a.target ∷ b.target ∷ []
-
-      first : IsPairOf space.targets targets p
-      first = record { pair = a; there = here; among = contains_first a.target (b.target ∷ []) }
-
-      second : IsPairOf space.targets targets q
-      second = record { pair = b; there = there; among = contains_later a.target (b.target ∷ []) b.target (contains_first b.target []) }
-
-      by : (p < q) ⊎ (q ≤ p) → (q < p) ⊎ (p ≤ q) → p ≡ q
-      by (inl h) k = absurd (keys_apart space targets apart p q h first second same)
-      by (inr h) (inl k) = absurd (keys_apart space targets apart q p k second first (sym same))
-      by (inr h) (inr k) = omega arith
-
   -- a document of the build with the key of a pair is the one of that pair
   pub pair_by_key : (g : Given) (documents : AreDocuments g.active.build g.documents) → g.active.build.space ≡ space
       → (p : ℕ) (pair : Pair) → slice_get (pairs_of space.targets) p ≡ Some pair → (document : BuildDocument) → Contains g.documents document → document.key ≡ key_at space p → document.pair ≡ p
@@ -219,7 +203,7 @@ module _ (space : Space) (apart : AllPairs (AreApart space) (pairs_of space.targ
       let its : slice_get (pairs_of space.targets) from.0 ≡ Some of.pair = subst (λ (w : Space). slice_get (pairs_of w.targets) from.0 ≡ Some of.pair) of_space of.there in
       let key : key_at space from.0 ≡ key_at space p =
       ap (λ (w : Space). key_at w from.0) (sym of_space) ∙ (ap (λ (d : BuildDocument). d.key) from.2 ∙ same) in
-      ap (λ (d : BuildDocument). d.pair) (sym from.2) ∙ one_key from.0 p of.pair pair its here key
+      ap (λ (d : BuildDocument). d.pair) (sym from.2) ∙ one_index space apart from.0 p of.pair pair its here key
 
   pub not_made_unchecked : (g : Given) (documents : AreDocuments g.active.build g.documents) → g.active.build.space ≡ space → NumbersFit g.active
       → {messages : List Said} {table : Table} {failed : Bool} {made : List ℕ} → Ends g messages table failed made
@@ -227,3 +211,11 @@ module _ (space : Space) (apart : AllPairs (AreApart space) (pairs_of space.targ
   not_made_unchecked g documents of_space fit {made = made} ends p pair here absent =
       not_checked ends.ended (key_at space p) fit (λ document there begun same.
       absent (subst (Contains made) (pair_by_key g documents of_space p pair here document there same) (ends.begun document.pair begun)))
+
+-- what a check started of is in the workspace
+pub ended_within : (g : Given) (documents : AreDocuments g.active.build g.documents) (space : Space) → g.active.build.space ≡ space → NumbersFit g.active
+    → {messages : List Said} {table : Table} {failed : Bool} {made : List ℕ} → Ends g messages table failed made
+    → (key : TableKey) → HasStarted (told_by g messages) key → HasDocument space key
+ended_within g documents space of_space fit ends key started =
+    let from = started_of ends.ended key fit started in
+    subst (HasDocument space) from.3 (document_in g.active.build g.documents space documents of_space from.0 from.1)

@@ -28,7 +28,7 @@ use Rattle.session_law.specs.declared.BuildDocument.{BuildDocument}
 use Rattle.session_law.proofs.HistoryLaws.{checked_still}
 use Rattle.session_build.specs.Going.{HasToldStart, IsGoing, SettlesBy, all_running, pairs_made, told_by}
 use Rattle.session_build.specs.Publishing.{IsPublishedOne}
-use Rattle.session_build.specs.Remembering.{RemembersChecks}
+use Rattle.session_build.specs.Remembering.{IsOfSome, RemembersChecks}
 use Rattle.session_build.specs.Setting.{IsSetting}
 use Rattle.session_build.specs.Stages.{AreBegun, IsOnCourse}
 use Rattle.session_build.specs.Tallies.{AreTallied, IsCount}
@@ -37,7 +37,7 @@ use Rattle.session_build.specs.declared.going.Job.{Job}
 use Rattle.session_build.specs.declared.going.Made.{Made}
 use Rattle.session_build.specs.declared.setting.Setting.{Setting}
 use Rattle.session_build.proofs.CourseSteps.{on_known, published_behind}
-use Rattle.session_build.proofs.RememberLaws.{IsMade, found_made, hit_kept, hit_known}
+use Rattle.session_build.proofs.RememberLaws.{found_made, hit_kept, hit_known}
 use Rattle.session_build.proofs.StageLaws.{adds_push, agrees_known, begun_known}
 use Rattle.session_build.proofs.TallyLaws.{begun_not, tallied_settled}
 use Rattle.target_graph.specs.Workspace.{Space, pairs_of}
@@ -71,12 +71,16 @@ module _ (at : Setting) (is : IsSetting at) (cache : Cache) (g : Given) (old new
   targets_are : (world_in g.active).targets ≡ at.workspace.value.targets
   targets_are = ap (λ (x : Space). x.targets) own_space
 
-  chosen : Chosen (IsOf (held_in (world_in g.active) pair) imports) (first_at cache (key_of up.target)) (other_at cache (key_of up.target)) fact
-  chosen =
-      subst (λ w. Chosen (IsOf (held_in w pair) imports) (first_at cache (key_of up.target)) (other_at cache (key_of up.target)) fact) world_here
-      (found up.target (subst (λ (ts : List Target). slice_get (pairs_of ts) pair ≡ Some up.target) (sym (ap (λ (w : World). w.targets) world_here ∙ targets_are)) up.there))
+  targets_here : (world_of c).targets ≡ at.workspace.value.targets
+  targets_here = ap (λ (w : World). w.targets) world_here ∙ targets_are
 
-  made : IsOf (held_in (world_in g.active) pair) imports fact × IsMade keys g.earlier pair document.key fact
+  chosen : Chosen (IsOf (held_in (world_in g.active) pair) imports) (first_at cache (key_of at.workspace.value.targets up.target)) (other_at cache (key_of at.workspace.value.targets up.target)) fact
+  chosen =
+      subst (λ (w : World). Chosen (IsOf (held_in w pair) imports) (first_at cache (key_of at.workspace.value.targets up.target)) (other_at cache (key_of at.workspace.value.targets up.target)) fact) world_here
+      (subst (λ (ts : List Target). Chosen (IsOf (held_in (world_of c) pair) imports) (first_at cache (key_of ts up.target)) (other_at cache (key_of ts up.target)) fact) targets_here
+      (found up.target (subst (λ (ts : List Target). slice_get (pairs_of ts) pair ≡ Some up.target) (sym targets_here) up.there)))
+
+  made : IsOf (held_in (world_in g.active) pair) imports fact × IsOfSome keys g.earlier document.key fact
   made = found_made keys g.earlier at.workspace.value cache remembers g.active own_space pair up.target up.there imports fact chosen
 
   kept : IsKept keys (world_in g.active) pair fact

@@ -34,3 +34,8 @@ pub mod BareSteps
 pub mod MakingLaws
 pub mod LateLaws
 pub mod KeepingLaws
+pub mod IndexLaws
+pub mod FilterLaws
+pub mod CleanedLaws
+pub mod ReloadLaws
+pub mod CleaningLaws

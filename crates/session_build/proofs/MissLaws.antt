@@ -70,15 +70,19 @@ module _ (at : Setting) (is : IsSetting at) (cache : Cache) (g : Given) (old new
   targets_are : (world_in g.active).targets ≡ at.workspace.value.targets
   targets_are = ap (λ (x : Space). x.targets) own_space
 
-  lacks : Lacks (IsOf (held_in (world_in g.active) pair) imports) (first_at cache (key_of up.target))
+  targets_here : (world_of c).targets ≡ at.workspace.value.targets
+  targets_here = ap (λ (w : World). w.targets) world_here ∙ targets_are
+
+  lacks : Lacks (IsOf (held_in (world_in g.active) pair) imports) (first_at cache (key_of at.workspace.value.targets up.target))
   lacks =
-      subst (λ w. Lacks (IsOf (held_in w pair) imports) (first_at cache (key_of up.target))) world_here
-      (lacked.first up.target (subst (λ (ts : List Target). slice_get (pairs_of ts) pair ≡ Some up.target) (sym (ap (λ (w : World). w.targets) world_here ∙ targets_are)) up.there))
+      subst (λ (w : World). Lacks (IsOf (held_in w pair) imports) (first_at cache (key_of at.workspace.value.targets up.target))) world_here
+      (subst (λ (ts : List Target). Lacks (IsOf (held_in (world_of c) pair) imports) (first_at cache (key_of ts up.target))) targets_here
+      (lacked.first up.target (subst (λ (ts : List Target). slice_get (pairs_of ts) pair ≡ Some up.target) (sym targets_here) up.there)))
 
   due : Due g.earlier g.active document
   due =
-      miss_due keys g.earlier at.workspace.value cache remembers g.active own_space pair up.target up.there is.apart
-      (λ v same. once_in at is v same) apart imports numbered_here lacks
+      miss_due keys g.earlier at.workspace.value cache remembers g.active own_space pair up.target up.there
+      (once_in at is (world_in g.active) targets_are) apart imports numbered_here lacks
 
   number_is : begins.job.number ≡ suc (length going.stage.begun)
   number_is = begins.number_is ∙ ap (λ n. suc n) going.count

@@ -16,6 +16,7 @@ use Rattle.session_build.specs.Going.{FinishesOne, GoesOnBy, IsAmong, IsGoing, I
 use Rattle.session_build.specs.Pausing.{HasFinished, HasPaused, IsPaused, Stays}
 use Rattle.session_build.specs.Remembering.{Remembers}
 use Rattle.session_build.specs.declared.building.Build.{Build}
+use Rattle.session_build.specs.declared.building.Remains.{Remains}
 use Rattle.session_build.specs.declared.building.Went.{Went}
 use Rattle.session_build.specs.declared.building.Went.TheVariants.{On, Ended}
 use Rattle.session_build.specs.declared.going.Going.{Going}
@@ -54,13 +55,13 @@ waits b kept queue paused runs few =
     }
 
 -- none does
-pub ended : (b : Build) (old new : Kept) (before after : List Said) (failed : Bool) → b.going.jobs.items ≡ [] → HasFinished b old new before after failed
-    → HasPaused b (Ended failed) old new before after
-ended b old new before after failed idle finished = record { own = finished.own; tells = finished.tells; bare = finished.bare; same = finished.same; stays = idle; goes = finished.ends }
+pub ended : (b : Build) (old new : Kept) (before after : List Said) (failed : Bool) (remains : Remains) → b.going.jobs.items ≡ [] → HasFinished b old new before after failed
+    → HasPaused b (Ended failed remains) old new before after
+ended b old new before after failed remains idle finished = record { own = finished.own; tells = finished.tells; bare = finished.bare; same = finished.same; stays = idle; goes = finished.ends }
 
 pub rests_of : (b : Build) (went : Went) → Stays b went → IfOn went Rests
 rests_of b (On new) stays = stays.1
-rests_of b (Ended failed) idle = tt
+rests_of b (Ended failed remains) idle = tt
 
 -- ---- the checks that run then
 
@@ -73,7 +74,7 @@ runs_all b (On new) stays all = subst (λ (x : Build). (k : ℕ) → k < begun_i
     each k less =
         let from = contains_map_back (λ (j : Job). j.number) b.going.jobs.items (suc k) (all (suc k) (omega arith) (omega (arith, less))) in
         (from.0.pair, record { job = from.0; there = from.1; number_is = from.2; pair_is = refl })
-runs_all b (Ended failed) idle all = tt
+runs_all b (Ended failed remains) idle all = tt
 
 runs_on : (b : Build) (number : ℕ) (later : Going) → IsOrdered b.going → FinishesOne b.going number later → RunsOn b number (record { at = b.at; going = later })
 runs_on b number later ordered one = record {
@@ -97,7 +98,7 @@ runs_on b number later ordered one = record {
 pub leaves : (b : Build) (number : ℕ) (later : Going) (went : Went) → IsOrdered b.going → FinishesOne b.going number later → Stays (record { at = b.at; going = later }) went
     → Leaves b number went
 leaves b number later (On new) ordered one stays = subst (λ (x : Build). RunsOn b number x) (sym stays.0) (runs_on b number later ordered one)
-leaves b number later (Ended failed) ordered one idle = λ n p runs. by n p runs (cases_eq n number)
+leaves b number later (Ended failed remains) ordered one idle = λ n p runs. by n p runs (cases_eq n number)
   where
     by : (n p : ℕ) → Runs b n p → (n ≡ number) ⊎ (n ≡ number → ⊥) → n ≡ number
     by n p runs (inl same) = same

@@ -208,7 +208,7 @@ origin_within (Some text) limit h = h.within
 
 framed_publication : (p : PublishDiagnosticsParams) → has_float (publish_diagnostics_params_data p) ≡ false
     → length (compact_text (publish_diagnostics_params_data p)) ≤ publication_limit → IsFramed (publication_said p)
-framed_publication p exact short = framed_notice (codes "build/publishDiagnostics") (publish_diagnostics_params_data p) refl refl (lit≤ tt) exact short
+framed_publication p exact short = framed_notice (codes "build/publishDiagnostics") (publish_diagnostics_params_data p) refl refl (lit≤ tt) exact (omega (arith, short))
 
 -- each publication that is short is a message of the server
 pub all_framed : (ps : List PublishDiagnosticsParams) → All IsShortPublication ps → All IsFramed (map publication_said ps)

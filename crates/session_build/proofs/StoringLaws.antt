@@ -1,10 +1,9 @@
 -- The checks that were made are stored: each pair has places of its own.
-use Rattle.std.proofs.Common.{◌≡◌, ◌≢◌, ◌⊎◌, inl, inr, ◌<◌, ◌≤◌, ◌++◌, ◌&&◌, ◌==◌, ℕ, List, [], ◌∷◌, length, get_or, map, take, Bool, true, false, Option, Some, refl, sym, ap, subst, ◌∙◌, arith}
+use Rattle.std.proofs.Common.{◌≡◌, ◌≢◌, ◌⊎◌, inl, inr, ◌<◌, ◌≤◌, ◌++◌, ◌&&◌, ℕ, List, [], ◌∷◌, length, get_or, map, take, Bool, true, false, Option, Some, refl, sym, ap, subst, ◌∙◌, arith}
 use Rattle.std.specs.Prelude.{if◌then◌else◌}
 use Rattle.std.specs.List.{AllPairs, Contains, slice_get}
 use Rattle.std.specs.Str.{bytes_eq}
 use Rattle.std.proofs.lemmas.Bool.{cases_lt}
-use Rattle.std.proofs.lemmas.Bool.Decides.{Decides-eqb}
 use Rattle.std.proofs.lemmas.List.{get_or-map, get_or-take, length-map, map-append, map-id}
 use Rattle.std.proofs.lemmas.List.Elements.{Contains-append_left, Contains-push, Contains-push_cases}
 use Rattle.std.proofs.lemmas.Option.{get_or_from_slice_get, same_Some, slice_get_within}
@@ -18,8 +17,8 @@ use Rattle.session_build.specs.Going.{pairs_made}
 use Rattle.session_build.specs.Storing.{IsStored, StoresAll, StoresOne}
 use Rattle.session_build.specs.declared.going.Made.{Made}
 use Rattle.session_build.proofs.Members.{contains_map, image_of}
-use Rattle.target_graph.specs.Address.{document_address}
-use Rattle.target_graph.specs.Workspace.{Space, id_of, pairs_of}
+use Rattle.target_graph.specs.Address.{document_address, target_address}
+use Rattle.target_graph.specs.Workspace.{Space, name_at, pairs_of}
 use Rattle.target_graph.specs.declared.target.Pair.{Pair}
 use Rattle.target_graph.proofs.Distinct.{AreApart}
 
@@ -27,14 +26,15 @@ use Rattle.target_graph.proofs.Distinct.{AreApart}
 
 pub same_key : (a : PairKey) → same_pair a a ≡ true
 same_key a =
-    ap (λ b. b && bytes_eq a.path a.path) ((Decides-eqb a.target a.target).1 refl) ∙ (bytes_eq-Decides a.path a.path).1 refl
+    ap (λ b. b && bytes_eq a.path a.path) ((bytes_eq-Decides a.target a.target).1 refl) ∙ (bytes_eq-Decides a.path a.path).1 refl
 
-pub apart_key : (space : Space) (p q : Pair) → AreApart space p q → same_pair (key_of p) (key_of q) ≡ false
-apart_key space p q apart = by (p.target == q.target) refl (bytes_eq p.path q.path) refl
+pub apart_key : (space : Space) (p q : Pair) → AreApart space p q → same_pair (key_of space.targets p) (key_of space.targets q) ≡ false
+apart_key space p q apart = by (bytes_eq (name_at space.targets p.target) (name_at space.targets q.target)) refl (bytes_eq p.path q.path) refl
   where
-    by : (a : Bool) → (p.target == q.target) ≡ a → (b : Bool) → bytes_eq p.path q.path ≡ b → (a && b) ≡ false
+    by : (a : Bool) → bytes_eq (name_at space.targets p.target) (name_at space.targets q.target) ≡ a → (b : Bool) → bytes_eq p.path q.path ≡ b → (a && b) ≡ false
     by true target true path =
-        absurd (apart (ap (document_address space.root) ((bytes_eq-Decides p.path q.path).0 path)) (ap (id_of space) ((Decides-eqb p.target q.target).0 target)))
+        absurd (apart (ap (document_address space.root) ((bytes_eq-Decides p.path q.path).0 path))
+        (ap (target_address space.root) ((bytes_eq-Decides (name_at space.targets p.target) (name_at space.targets q.target)).0 target)))
     by true target false path = refl
     by false target b path = refl
 
@@ -55,31 +55,31 @@ module _ (space : Space) (apart : AllPairs (AreApart space) (pairs_of space.targ
 
   -- ---- one check is stored
 
-  pub one_stored : (it : Made) (key : PairKey) (own : Pair) (old new : Cache) → slice_get (pairs_of space.targets) it.pair ≡ Some own → key ≡ key_of own
+  pub one_stored : (it : Made) (key : PairKey) (own : Pair) (old new : Cache) → slice_get (pairs_of space.targets) it.pair ≡ Some own → key ≡ key_of space.targets own
       → ((q : PairKey) → first_at new q ≡ (if same_pair key q then Some it.fact else first_at old q))
       → ((q : PairKey) → other_at new q ≡ (if same_pair key q then moved (first_at old q) (other_at old q) else other_at old q))
       → StoresOne space it old new
   one_stored it key own old new there key_is first other = record {
-    own = λ pair here. (let test : same_pair key (key_of pair) ≡ true = same pair here in
+    own = λ pair here. (let test : same_pair key (key_of space.targets pair) ≡ true = same pair here in
         record {
-          first = first (key_of pair) ∙ ap (λ b. if b then Some it.fact else first_at old (key_of pair)) test;
-          other = other (key_of pair) ∙ ap (λ b. if b then moved (first_at old (key_of pair)) (other_at old (key_of pair)) else other_at old (key_of pair)) test;
+          first = first (key_of space.targets pair) ∙ ap (λ b. if b then Some it.fact else first_at old (key_of space.targets pair)) test;
+          other = other (key_of space.targets pair) ∙ ap (λ b. if b then moved (first_at old (key_of space.targets pair)) (other_at old (key_of space.targets pair)) else other_at old (key_of space.targets pair)) test;
         });
-    others = λ p pair here differ. (let test : same_pair key (key_of pair) ≡ false = differs p pair here differ in
+    others = λ p pair here differ. (let test : same_pair key (key_of space.targets pair) ≡ false = differs p pair here differ in
         record {
-          first = first (key_of pair) ∙ ap (λ b. if b then Some it.fact else first_at old (key_of pair)) test;
-          other = other (key_of pair) ∙ ap (λ b. if b then moved (first_at old (key_of pair)) (other_at old (key_of pair)) else other_at old (key_of pair)) test;
+          first = first (key_of space.targets pair) ∙ ap (λ b. if b then Some it.fact else first_at old (key_of space.targets pair)) test;
+          other = other (key_of space.targets pair) ∙ ap (λ b. if b then moved (first_at old (key_of space.targets pair)) (other_at old (key_of space.targets pair)) else other_at old (key_of space.targets pair)) test;
         });
   }
     where
-      same : (pair : Pair) → slice_get (pairs_of space.targets) it.pair ≡ Some pair → same_pair key (key_of pair) ≡ true
+      same : (pair : Pair) → slice_get (pairs_of space.targets) it.pair ≡ Some pair → same_pair key (key_of space.targets pair) ≡ true
       same pair here =
-          let key_here : key ≡ key_of pair = key_is ∙ ap key_of (same_Some own pair (sym there ∙ here)) in
-          ap (λ (k : PairKey). same_pair k (key_of pair)) key_here ∙ same_key (key_of pair)
+          let key_here : key ≡ key_of space.targets pair = key_is ∙ ap (key_of space.targets) (same_Some own pair (sym there ∙ here)) in
+          ap (λ (k : PairKey). same_pair k (key_of space.targets pair)) key_here ∙ same_key (key_of space.targets pair)
 
-      differs : (p : ℕ) (pair : Pair) → slice_get (pairs_of space.targets) p ≡ Some pair → ¬ (it.pair ≡ p) → same_pair key (key_of pair) ≡ false
+      differs : (p : ℕ) (pair : Pair) → slice_get (pairs_of space.targets) p ≡ Some pair → ¬ (it.pair ≡ p) → same_pair key (key_of space.targets pair) ≡ false
       differs p pair here differ =
-          ap (λ (k : PairKey). same_pair k (key_of pair)) key_is ∙ apart_key space own pair (apart_at it.pair p own pair there here differ)
+          ap (λ (k : PairKey). same_pair k (key_of space.targets pair)) key_is ∙ apart_key space own pair (apart_at it.pair p own pair there here differ)
 
 -- ---- one after another
 
@@ -103,7 +103,7 @@ one_more_stored space made it old mid new all one absent = record {
       record { first = behind.first ∙ before.first; other = behind.other ∙ before.other });
 }
   where
-    by : (x : Made) (pair : Pair) → slice_get (pairs_of space.targets) x.pair ≡ Some pair → Contains made x ⊎ (it ≡ x) → IsStored old new x pair
+    by : (x : Made) (pair : Pair) → slice_get (pairs_of space.targets) x.pair ≡ Some pair → Contains made x ⊎ (it ≡ x) → IsStored old new x (key_of space.targets pair)
     by x pair there (inl among) =
         let before = all.own x pair among there in
         let behind = one.others x.pair pair there (λ same. absent (subst (Contains (pairs_made made)) (sym same) (contains_map (λ (m : Made). m.pair) made x among))) in
@@ -114,7 +114,7 @@ one_more_stored space made it old mid new all one absent = record {
         let behind = one.own pair here in
         record {
           first = behind.first ∙ ap (λ (m : Made). Some m.fact) same;
-          other = behind.other ∙ (ap (λ (o : Option FactTree). moved o (other_at mid (key_of pair))) before.first ∙ ap (moved (first_at old (key_of pair))) before.other);
+          other = behind.other ∙ (ap (λ (o : Option FactTree). moved o (other_at mid (key_of space.targets pair))) before.first ∙ ap (moved (first_at old (key_of space.targets pair))) before.other);
         }
 
 -- the next one is of a pair of its own

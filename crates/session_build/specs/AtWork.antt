@@ -88,17 +88,17 @@ pub record RunsOn (old : Build) (number : ℕ) (new : Build) : Type 0 where
 
 abbrev pub IfOn : Went → (Build → Type 0) → Type 0
 IfOn (On b) P = P b
-IfOn (Ended failed) P = Unit {0}
+IfOn (Ended failed remains) P = Unit {0}
 
 -- no check runs any more where the build ended
 abbrev pub Leaves : Build → ℕ → Went → Type 0
 Leaves b number (On new) = RunsOn b number new
-Leaves b number (Ended failed) = (n p : ℕ) → Runs b n p → n ≡ number
+Leaves b number (Ended failed remains) = (n p : ℕ) → Runs b n p → n ≡ number
 
 -- The build told this since its hand. Either it is at work, and what is kept is still of the builds before it, or it is whole.
 abbrev pub IsWith : Given → Went → List Said → Table → Kept → Type 0
 IsWith g (On b) told table kept = IsAtWork g b told kept.keys table × Remembers g.active.build.space g.earlier kept
-IsWith g (Ended failed) told table kept = IsBuilt g.active g.earlier g.table table kept told failed
+IsWith g (Ended failed remains) told table kept = IsBuilt g.active g.earlier g.table table kept told failed
 
 -- the same of a build that began behind these, as a client showed this
 pub record IsBegun (active : Active) (builds : List Told) (shown : Table) (went : Went) (told : List Said) (table : Table) (kept : Kept) : Type 0 where

@@ -35,4 +35,4 @@ pub record IsBuilt (active : Active) (builds : List Told) (old new : Table) (kep
   pub shown : (document target : List ℕ) → new document target ≡ table_behind messages old document target
   pub shows : All (Shows new) ended.findings
   pub failed_is : failed ≡ list_any has_error ended.findings
-  pub remembers : Remembers active.build.space (record { active = active; notices = messages } ∷ builds) kept
+  pub remembers : Remembers active.build.space (record { active = active; notices = messages; cleaned = [] } ∷ builds) kept

@@ -118,7 +118,7 @@ HasToldStart g messages job =
     Contains messages (check_starts g.active.number job.number job.target (build_document g.active.build.space job.pair).key.document)
 
 abbrev pub told_by : Given → List Said → Told
-told_by g messages = record { active = g.active; notices = messages }
+told_by g messages = record { active = g.active; notices = messages; cleaned = [] }
 
 -- The build is so far on this course, where it told this and these are the checks that run.
 pub record IsGoingWith (g : Given) (at : Setting) (going : Going) (jobs : List Job) (told : List Said) (keys : List (List ℕ)) (table : Table) : Type 0 where

@@ -1,6 +1,7 @@
 pub mod AtWork
 pub mod Building
 pub mod Cancels
+pub mod Cleaning
 pub mod Documents
 pub mod Ending
 pub mod Going

@@ -36,7 +36,7 @@ pub record HasFinished (b : Build) (old new : Kept) (before after : List Said) (
 -- it waits as it is, or no check ran any more
 abbrev pub Stays : Build → Went → Type 0
 Stays b (On new) = (new ≡ b) × Rests new
-Stays b (Ended failed) = b.going.jobs.items ≡ []
+Stays b (Ended failed remains) = b.going.jobs.items ≡ []
 
 pub record HasPaused (b : Build) (went : Went) (old new : Kept) (before after : List Said) : Type 0 where
   pub own : List Said

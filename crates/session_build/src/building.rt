@@ -64,12 +64,12 @@ pub struct Build {
 pub enum Went {
     /// It waits for its checks.
     On(Build),
-    /// It told all, and some document has an error, or none has.
-    Ended { failed: bool },
+    /// It told all, and some document has an error, or none has. What is left of it may be freed once its request is answered.
+    Ended { failed: bool, remains: Remains },
 }
 
-/// What is left of a build that was cancelled. Nothing more is done with it, but what was read of its documents takes time to
-/// be freed.
+/// What is left of a build that ended or was cancelled. Nothing more is done with it, but what was read of its documents takes
+/// time to be freed.
 #[derive(Drop)]
 pub struct Remains {
     _checks: Checks,
@@ -207,22 +207,27 @@ impl Build {
             let _count = self.begun();
             return Ok(Went::On(self));
         }
-        let failed = self.end(kept, out)?;
-        Ok(Went::Ended { failed })
+        let (failed, remains) = self.end(kept, out)?;
+        Ok(Went::Ended { failed, remains })
     }
 
     /// Reports the targets, tells that the build finishes, and keeps the checks that it made.
-    fn end(self, kept: &mut Kept, out: &mut VecDeque<Outgoing>) -> Result<bool, NoMemory>
+    fn end(self, kept: &mut Kept, out: &mut VecDeque<Outgoing>) -> Result<(bool, Remains), NoMemory>
         requires sound { IsPaused self }
         requires idle { self.going.jobs.items ≡ [] }
-        ensures { IfOk result (HasFinished self kept.old kept.new (map outgoing_said out.old.items) (map outgoing_said out.new.items)) }
+        ensures { IfOk result (λ ended. HasFinished self kept.old kept.new (map outgoing_said out.old.items) (map outgoing_said out.new.items) ended.0) }
     {
         let Build { at, going } = self;
-        let Going { made, tallies, .. } = going;
+        let Going {
+            checks,
+            made,
+            tallies,
+            ..
+        } = going;
         let failed = end_build(&at, tallies.as_slice(), out)?;
         let space: &Workspace = &at.workspace;
         store_all(at.alloc, space, &mut kept.cache, made)?;
-        Ok(failed)
+        Ok((failed, Remains { _checks: checks }))
     }
 }
 

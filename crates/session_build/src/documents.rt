@@ -1,10 +1,12 @@
-ghost use Rattle.std.specs.Prelude.{◌≡◌, ◌≢◌, ◌<◌, ℕ, List, Option, length, map, not, IfOk};
-ghost use Rattle.std.specs.List.{All, AllPairs, list_any};
+ghost use Rattle.std.specs.Prelude.{◌≡◌, ◌≢◌, ◌<◌, ℕ, List, Option, Some, length, map, not, IfOk};
+ghost use Rattle.std.specs.List.{All, AllPairs, list_any, slice_get};
 ghost use Rattle.std.specs.Str.{bytes_eq};
 ghost use Rattle.session_law.specs.Builds.{AreDocuments, build_document};
+ghost use Rattle.session_law.specs.Reloading.{key_of};
 ghost use Rattle.ob_text.specs.Once.{each_once, once_more};
 ghost use Rattle.session_build.specs.Documents.{build_of};
 ghost use Rattle.target_graph.specs.Workspace.{pairs_of};
+ghost use Rattle.target_graph.specs.declared.target.Pair.{Pair};
 
 use build_sources::set_of;
 use indexmap::IndexSet;
@@ -36,6 +38,26 @@ pub fn documents_of(
         }
     }
     Ok(Items::from_vec(documents))
+}
+
+/// The keys at which a client shows the documents of some pairs, in order.
+pub fn keys_of(
+    alloc: Global,
+    workspace: &Workspace,
+    pairs: &[u32],
+) -> Result<Vec<TableKey>, NoMemory>
+    requires { All (λ pair. pair < length (pairs_of workspace.now.targets)) pairs.now }
+    ensures keys { IfOk result (λ keys. keys.items ≡ map (λ pair. (build_document workspace.now pair).key) pairs.now) }
+    // Whatever these pairs are, the keys are theirs.
+    ensures pairs { IfOk result (λ keys. (own : List Pair) → map (slice_get (pairs_of workspace.now.targets)) pairs.now ≡ map Some own
+        → keys.items ≡ map (key_of workspace.now) own) }
+{
+    let mut keys = Vec::new(alloc);
+    for pair in pairs {
+        let document = document_of_pair(alloc, workspace, *pair)?;
+        keys.push(document.key)?;
+    }
+    Ok(keys)
 }
 
 /// A pair's document in its target.

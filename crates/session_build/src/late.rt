@@ -1,4 +1,4 @@
-ghost use Rattle.std.specs.Prelude.{◌≡◌, ◌↔◌, ℕ, true, Contains, IsTrue, IfOk, OnOk};
+ghost use Rattle.std.specs.Prelude.{◌≡◌, ◌↔◌, ℕ, Contains, IsTrue, IfOk, OnOk};
 ghost use Rattle.std.specs.List.{All};
 ghost use Rattle.build_checks.specs.Kept.{Extends};
 ghost use Rattle.build_checks.specs.Stand.{AreChecks};
@@ -7,7 +7,6 @@ ghost use Rattle.oberon_rules.specs.Local.{view_in};
 ghost use Rattle.session_build.specs.Going.{IsJob};
 ghost use Rattle.session_build.specs.declared.late.Late.{Late};
 ghost use Rattle.session_build.specs.Late.{AddsLate, AddsLateOf, HasKept, IsLateJob, IsPlaceIn, IsSameCheck, ShowsAs, TakesLate};
-ghost use Rattle.target_graph.specs.Names.{is_path, stem};
 ghost use Rattle.worker_pool.specs.Jobs.{plain_check};
 ghost use Rattle.worker_pool.specs.Outcomes.{IsCheckOf};
 
@@ -18,13 +17,12 @@ use build_checks::{Checks, key_of_import};
 use check_cache::PairKey;
 use iface_key::Keys;
 use indexmap::IndexMap;
-use ob_text::{Held, Name, NoMemory, Path};
+use ob_text::{Held, Name, NoMemory};
 use oberon_module::Checked;
 use oberon_types::View;
 use std::alloc::Global;
 use std::collections::VecDeque;
 use std::sync::Arc;
-use target_graph::{Workspace, stem_of};
 use worker_pool::Check;
 
 /// So many checks of cancelled builds are waited for. One that is forgotten is made again once it is due.
@@ -35,7 +33,10 @@ const LATE_LIMIT: usize = 4096;
 pub(crate) struct Late {
     /// The number of its job.
     pub number: u64,
-    pub pair: u32,
+    /// The key of its pair.
+    pub key: PairKey,
+    /// The stem of its document's path.
+    pub stem: Name,
     /// What it is of.
     pub held: Arc<Held>,
     /// The names that it imports, with the numbers of the keys of what they show.
@@ -45,28 +46,18 @@ pub(crate) struct Late {
 impl Kept {
     /// Keeps what a check of a cancelled build found, whose job has this number: in the other place of its pair, if it is
     /// still waited for.
-    pub fn outcome(
-        &mut self,
-        workspace: &Workspace,
-        number: u64,
-        check: Check,
-        checked: Checked,
-    ) -> Result<(), NoMemory>
+    pub fn outcome(&mut self, number: u64, check: Check, checked: Checked) -> Result<(), NoMemory>
         requires { IsCheckOf (plain_check check) checked }
-        ensures { OnOk result (HasKept workspace.now number (plain_check check) checked self.old self.new) }
+        ensures { OnOk result (HasKept number (plain_check check) checked self.old self.new) }
     {
         let Some(late) = take_late(&mut self.late, number) else {
             return Ok(());
         };
-        let Some(own) = workspace.pairs().get(late.pair as usize) else {
-            return Ok(());
-        };
-        if !is_of(self.alloc, &late, &own.path, &check, &mut self.keys)? {
+        if !is_of(self.alloc, &late, &check, &mut self.keys)? {
             return Ok(());
         }
-        let key = PairKey::of(self.alloc, own)?;
         let fact = fact_by(self.alloc, late.imports.as_slice(), check, checked)?;
-        self.cache.store_late(&key, fact)?;
+        self.cache.store_late(&late.key, fact)?;
         Ok(())
     }
 }
@@ -105,10 +96,13 @@ fn late_of(checks: &Checks, first: u64, job: Job) -> Result<Late, NoMemory>
     let Some(number) = number.saturating_sub(1).checked_add(first) else {
         return Err(NoMemory);
     };
+    let key = checks.key(pair)?;
+    let stem = checks.stem(pair)?;
     let held = checks.held(pair)?;
     Ok(Late {
         number,
-        pair,
+        key,
+        stem,
         held,
         imports,
     })
@@ -152,22 +146,14 @@ fn place_in(late: &VecDeque<Late>, number: u64) -> Option<usize>
     None
 }
 
-/// Whether this is the check that is late, of a document at this path: whether it is of the same text, under its stem, and
-/// its imports show what they did.
-fn is_of(
-    alloc: Global,
-    late: &Late,
-    path: &Path,
-    check: &Check,
-    keys: &mut Keys,
-) -> Result<bool, NoMemory>
-    requires { is_path path.now ≡ true }
-    ensures same { IfOk result (λ same. IsTrue same ↔ IsSameCheck keys.new late.now (stem path.now) (plain_check check.now)) }
+/// Whether this is the check that is late: whether it is of the same text, under the same stem, and its imports show what
+/// they did.
+fn is_of(alloc: Global, late: &Late, check: &Check, keys: &mut Keys) -> Result<bool, NoMemory>
+    ensures same { IfOk result (λ same. IsTrue same ↔ IsSameCheck keys.new late.now (plain_check check.now)) }
     ensures earlier { OnOk result (Extends keys.old keys.new) }
 {
-    let stem = stem_of(alloc, path)?;
     let held: &Held = &late.held;
-    if is_document(check, held, &stem) {
+    if is_document(check, held, &late.stem) {
         shows_same(alloc, late.imports.as_slice(), check.views(), keys)
     } else {
         Ok(false)

@@ -5,11 +5,14 @@
 //! checks that are kept, and nothing of other requests, nor of who makes its checks. Begin with `Build` and
 //! `specs/AtWork.antt`, then `going.rt`; what is told waits as `Outgoing` (`outgoing.rt`), that of tasks is made in
 //! `tasks.rt`, what a check found becomes a fact in `making.rt`, and what comes of the checks of a cancelled build is kept
-//! in `late.rt`. What is so of each build that rests stands in `proofs/RestLaws.antt`.
+//! in `late.rt`. What the kept checks have to do with the builds that were answered says `specs/Remembering.antt`, and
+//! `cleaning.rt` forgets those of documents that are cleaned. What is so of each build that rests stands in
+//! `proofs/RestLaws.antt`.
 #![tactic(auto)]
 
 mod building;
 mod cancelling;
+mod cleaning;
 mod documents;
 mod ending;
 mod going;
@@ -25,7 +28,7 @@ mod tasks;
 mod telling;
 
 pub use building::{Build, BuildRequest, Remains, Went};
-pub use documents::{documents_of, paths_of};
+pub use documents::{documents_of, keys_of, paths_of};
 pub use kept::Kept;
 pub use oberon_module::Checked;
 pub use outgoing::Outgoing;

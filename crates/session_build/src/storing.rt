@@ -38,7 +38,7 @@ fn store_one(
     let Some(own) = workspace.pairs().get(pair as usize) else {
         return Ok(());
     };
-    let key = PairKey::of(alloc, own)?;
+    let key = PairKey::of(alloc, workspace.targets(), own)?;
     cache.store(&key, fact)?;
     Ok(())
 }

@@ -97,6 +97,7 @@ starts_some g stage messages (checked finding j i own course nobody runs task se
 
 phase_up : (core : Core) (head : Head) (phase : Phase) (now : Now) (first : First) → PhaseFits core head phase now first → IsUpPhase phase → IsUp first × HasStarted first now
 phase_up core head (phases.Opening root) now first fits up = absurd up
+phase_up core head phases.Rereading now first fits up = absurd up
 phase_up core head (phases.Planned plan) now first fits up = absurd up
 phase_up core head (phases.Built b origin) now first fits up =
     let work = fits.at_work in
@@ -109,6 +110,7 @@ head_up core (Some head) now first fits up = phase_up core head head.phase now f
 
 phase_goes : (core : Core) (head : Head) (phase : Phase) (now : Now) (first : First) → PhaseFits core head phase now first → head.cancelled ≡ false → GoesOn first
 phase_goes core head (phases.Opening root) now first fits goes = subst GoesOn (sym fits.0) tt
+phase_goes core head phases.Rereading now first fits goes = subst GoesOn (sym fits.is) tt
 phase_goes core head (phases.Planned plan) now first fits goes = subst GoesOn (sym fits.is) tt
 phase_goes core head (phases.Built b origin) now first fits goes = subst GoesOn (sym fits.is) goes
 
@@ -118,6 +120,7 @@ head_goes core (Some head) now first fits goes = phase_goes core head head.phase
 
 phase_behind : (core : Core) (head : Head) (phase : Phase) (now : Now) (first : First) (waiting : List Asked) → PhaseFits core head phase now first → WaitsBehind first waiting
 phase_behind core head (phases.Opening root) now first waiting fits = subst (λ f. WaitsBehind f waiting) (sym fits.0) tt
+phase_behind core head phases.Rereading now first waiting fits = subst (λ f. WaitsBehind f waiting) (sym fits.is) tt
 phase_behind core head (phases.Planned plan) now first waiting fits = subst (λ f. WaitsBehind f waiting) (sym fits.is) tt
 phase_behind core head (phases.Built b origin) now first waiting fits = subst (λ f. WaitsBehind f waiting) (sym fits.is) tt
 

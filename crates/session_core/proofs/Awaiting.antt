@@ -10,6 +10,7 @@ use Rattle.session_core.specs.declared.head.Phase.TheVariants as phases
 
 phase_awaits : (phase : Phase) (jobs given : ℕ) → PhaseRests phase → IfBuiltPhase phase (λ b. given ≡ jobs + begun_in b) → IsUpPhase phase → (number : ℕ) × AwaitsPhase phase jobs given number
 phase_awaits (phases.Opening root) jobs given rests all up = absurd up
+phase_awaits phases.Rereading jobs given rests all up = absurd up
 phase_awaits (phases.Planned plan) jobs given rests all up = absurd up
 phase_awaits (phases.Built b origin) jobs given rests all up =
     let some = rests.0.some in

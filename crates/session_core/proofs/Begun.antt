@@ -13,6 +13,7 @@ use Rattle.session_build.specs.Remembering.{Remembers}
 use Rattle.session_build.specs.declared.building.Went.{Went}
 use Rattle.session_build.specs.declared.outgoing.Outgoing.{Outgoing}
 use Rattle.session_build.specs.declared.building.Build.{Build}
+use Rattle.session_build.specs.declared.building.Remains.{Remains}
 use Rattle.session_build.specs.declared.building.Went.TheVariants.{On, Ended}
 use Rattle.session_core.proofs.Built.{ends_on, tells_on}
 use Rattle.session_core.proofs.Framing.{framed_build}
@@ -168,7 +169,7 @@ module _ (old new : Core) (head : Head) (is : old.head ≡ Some head) (quiet : I
       waits_whole = subst (λ (core : Core). Whole core [] [] past) (sym goes_so.0) rested_whole
 
     -- it told all
-    module _ (failed : Bool) (went_is : begins.went ≡ Ended failed) where
+    module _ (failed : Bool) (remains : Remains) (went_is : begins.went ≡ Ended failed remains) where
       ends : IsBuilt begun.given.active begun.given.earlier begun.given.table (shows new.shown) new.kept begins.begun.own failed
       ends = subst (λ w. IsWith begun.given w begins.begun.own (shows new.shown) new.kept) went_is begun.goes
 
@@ -184,11 +185,11 @@ module _ (old new : Core) (head : Head) (is : old.head ≡ Some head) (quiet : I
       table_so : of.table ≡ shows old.shown
       table_so = ends.table_is ∙ begun.table_is
 
-      ends_so : HasWent (record old { head = None; kept = new.kept; shown = new.shown; jobs = old.given }) new head.id head.number plan.origin (Ended failed) begins.told
+      ends_so : HasWent (record old { head = None; kept = new.kept; shown = new.shown; jobs = old.given }) new head.id head.number plan.origin (Ended failed remains) begins.told
       ends_so = subst (λ w. HasWent (record old { head = None; kept = new.kept; shown = new.shown; jobs = old.given }) new head.id head.number plan.origin w begins.told) went_is begins.goes
 
       abbrev answered : Core
-      answered = record old { head = None; kept = new.kept; shown = new.shown; jobs = old.given; out = new.out }
+      answered = record old { head = None; kept = new.kept; shown = new.shown; jobs = old.given; out = new.out; remains = new.remains }
 
       answer_is : build_answer of.active.id of.active.build ends.ended.findings ≡ build_said head.id plan.origin failed
       answer_is = λ i. build_said (active_so i).id (active_so i).build.origin (sym ends.failed_is i)
@@ -198,12 +199,12 @@ module _ (old new : Core) (head : Head) (is : old.head ≡ Some head) (quiet : I
           said_is (begins.told ++ build_said head.id plan.origin failed ∷ []) ends_so.1
           ∙ (ap (λ ms. onto (ms ++ build_said head.id plan.origin failed ∷ []) past) told_is ∙ onto-push begins.begun.own (build_said head.id plan.origin failed) past)
 
-      keeps : Recalls old now.builds → RemembersIn old.workspace new.kept (record { active = of.active; notices = begins.begun.own } ∷ now.builds)
+      keeps : Recalls old now.builds → RemembersIn old.workspace new.kept (record { active = of.active; notices = begins.begun.own; cleaned = [] } ∷ now.builds)
       keeps known =
-          subst (λ f. RemembersIn f new.kept (record { active = of.active; notices = begins.begun.own } ∷ now.builds)) (sym planned.in_force)
-          (subst (λ bs. Remembers space (record { active = of.active; notices = begins.begun.own } ∷ bs) new.kept) begun.earlier_is
-          (subst (λ (a : Active). Remembers space (record { active = a; notices = begins.begun.own } ∷ begun.given.earlier) new.kept) (sym ends.active_is)
-          (subst (λ (a : Active). Remembers a.build.space (record { active = begun.given.active; notices = begins.begun.own } ∷ begun.given.earlier) new.kept) begun.active_is ends.remembers)))
+          subst (λ f. RemembersIn f new.kept (record { active = of.active; notices = begins.begun.own; cleaned = [] } ∷ now.builds)) (sym planned.in_force)
+          (subst (λ bs. Remembers space (record { active = of.active; notices = begins.begun.own; cleaned = [] } ∷ bs) new.kept) begun.earlier_is
+          (subst (λ (a : Active). Remembers space (record { active = a; notices = begins.begun.own; cleaned = [] } ∷ begun.given.earlier) new.kept) (sym ends.active_is)
+          (subst (λ (a : Active). Remembers a.build.space (record { active = begun.given.active; notices = begins.begun.own; cleaned = [] } ∷ begun.given.earlier) new.kept) begun.active_is ends.remembers)))
 
       ended_mid : Mid (plain_of answered) (Recalls answered) (record o { first = none }) (write (build_answer of.active.id of.active.build ends.ended.findings) ∷ onto begins.begun.own past)
       ended_mid =
@@ -227,7 +228,7 @@ module _ (old new : Core) (head : Head) (is : old.head ≡ Some head) (quiet : I
 
     by_went : (went : Went) → begins.went ≡ went → Whole new [] [] (hand handed ∷ order)
     by_went (On b) went_is = waits_whole b went_is
-    by_went (Ended failed) went_is = ends_whole failed went_is
+    by_went (Ended failed remains) went_is = ends_whole failed remains went_is
 
   pub begins_hand : Acts old new (hand handed)
   begins_hand order whole = by_went order whole begins.went refl

@@ -47,6 +47,7 @@ module _ (old : Core) (id : Id) (number : ℕ) (call : Queued) where
           by : (phase : Rattle.session_core.specs.declared.head.Phase.Phase) → Rattle.session_core.specs.Standing.PhaseFits old head phase (after (onto (said_out old) order)) whole.first
               → Rattle.session_core.specs.Standing.PhaseFits longer head phase (after (onto (said_out old) order)) whole.first
           by (phases.Opening root) it = it
+          by phases.Rereading it = it
           by (phases.Planned plan) it = it
           by (phases.Built b origin) it =
               record { given = it.given; id_is = it.id_is; space_is = it.space_is; origin_is = it.origin_is; is = it.is; at_work = it.at_work }

@@ -42,7 +42,7 @@ module _ (p : Plain) (R : List Told → Type 0) (o : Open) (order : List Event) 
   builds_are = ap (λ (n : Now). n.builds) (all_noticed own order notices)
 
   pub ends_on : (ended : HasEnded g (told ++ own)) → PublishesOf g (told ++ own) → All (Shows table) ended.findings → IsFramed (build_answer g.active.id g.active.build ended.findings)
-      → (Q : List Told → Type 0) → (R (after order).builds → Q (record { active = g.active; notices = told ++ own } ∷ (after order).builds))
+      → (Q : List Told → Type 0) → (R (after order).builds → Q (record { active = g.active; notices = told ++ own; cleaned = [] } ∷ (after order).builds))
       → Mid (record p { table = table }) Q (record o { first = none }) (write (build_answer g.active.id g.active.build ended.findings) ∷ onto own order)
   ends_on ended publishes shows answer Q remembers =
       subst
@@ -50,6 +50,6 @@ module _ (p : Plain) (R : List Told → Type 0) (o : Open) (order : List Event) 
       → Mid (record p { table = table }) Q (record o { first = none }) (write (build_answer g.active.id g.active.build it.findings) ∷ onto own order)) notices_are
       (λ it shows answer.
       mid_answers (record p { table = table }) R o (onto own order) (tells_on (Tells.ended ended) publishes) g first go it shows answer Q
-      (λ known. subst (λ ns. Q (record { active = g.active; notices = ns } ∷ (after (onto own order)).builds)) (sym notices_are)
-      (subst (λ bs. Q (record { active = g.active; notices = told ++ own } ∷ bs)) (sym builds_are) (remembers (subst R builds_are known)))))
+      (λ known. subst (λ ns. Q (record { active = g.active; notices = ns; cleaned = [] } ∷ (after (onto own order)).builds)) (sym notices_are)
+      (subst (λ bs. Q (record { active = g.active; notices = told ++ own; cleaned = [] } ∷ bs)) (sym builds_are) (remembers (subst R builds_are known)))))
       ended shows answer

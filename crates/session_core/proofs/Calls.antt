@@ -98,6 +98,7 @@ module _ (old new : Rest) (stays : HeadStays old.head new.head) (jobs : new.jobs
 fresh_phase : (phase : Phase) (jobs given : ℕ) → IfBuiltPhase phase (λ b. jobs ≡ given) → (job : JobTree) → job.number < given
     → IfBuiltPhase phase (λ b. (k : ℕ) → job.number ≡ jobs + k → IsJob b k job)
 fresh_phase (phases.Opening root) jobs given starts job few = tt
+fresh_phase phases.Rereading jobs given starts job few = tt
 fresh_phase (phases.Planned plan) jobs given starts job few = tt
 fresh_phase (phases.Built b origin) jobs given starts job few = λ k is. absurd (omega (arith, starts, few, is))
 
@@ -108,6 +109,7 @@ fresh_head (Some head) jobs given starts job few = fresh_phase head.phase jobs g
 
 awaited_phase : (phase : Phase) (jobs given number : ℕ) → IfBuiltPhase phase (λ b. jobs ≡ given) → ¬ (AwaitsPhase phase jobs given number)
 awaited_phase (phases.Opening root) jobs given number starts awaits = awaits
+awaited_phase phases.Rereading jobs given number starts awaits = awaits
 awaited_phase (phases.Planned plan) jobs given number starts awaits = awaits
 awaited_phase (phases.Built b origin) jobs given number starts (k, is, few, pair, runs) = omega (arith, starts, is, few)
 

@@ -42,7 +42,7 @@ module _ (p : Plain) (R Q : List Told → Type 0) (o : Open) (order : List Event
 
   pub cancels_all : (own : List Said) → IsCancelledBy g now.notices own → All IsFramed own → All IsNotice own → ShowsEither g.active g.table p.table
       → IsFramed (cancelled_said g.active.id g.active.build.origin)
-      → (R now.builds → Q (record { active = g.active; notices = now.notices ++ own } ∷ now.builds))
+      → (R now.builds → Q (record { active = g.active; notices = now.notices ++ own; cleaned = [] } ∷ now.builds))
       → Mid p Q (record o { first = none }) (write (cancelled_said g.active.id g.active.build.origin) ∷ onto own order)
   cancels_all own by framed notices shows answer remembers =
       let same : table_behind own p.table ≡ p.table = tasks_show_nothing own p.table (λ k d h. (all_of_cancel by k d h).tells) in
@@ -52,8 +52,8 @@ module _ (p : Plain) (R Q : List Told → Type 0) (o : Open) (order : List Event
       let notices_are : (after (onto own order)).notices ≡ now.notices ++ own = ap (λ (n : Now). n.notices) noticed_so in
       let builds_are : (after (onto own order)).builds ≡ now.builds = ap (λ (n : Now). n.builds) noticed_so in
       mid_answers_cancelled p R o (onto own order) told g first now.notices own notices_are by shows answer Q
-      (λ before. subst (λ ns. Q (record { active = g.active; notices = ns } ∷ (after (onto own order)).builds)) (sym notices_are)
-      (subst (λ bs. Q (record { active = g.active; notices = now.notices ++ own } ∷ bs)) (sym builds_are) (remembers (subst R builds_are before))))
+      (λ before. subst (λ ns. Q (record { active = g.active; notices = ns; cleaned = [] } ∷ (after (onto own order)).builds)) (sym notices_are)
+      (subst (λ bs. Q (record { active = g.active; notices = now.notices ++ own; cleaned = [] } ∷ bs)) (sym builds_are) (remembers (subst R builds_are before))))
 
 -- ---- by a core
 
@@ -81,13 +81,13 @@ module _ (old new : Core) (b : Build) (id : Id) (origin : Option (List ℕ)) (ke
   earlier_is : g.earlier ≡ (after so_far).builds
   earlier_is = (first_so o (after so_far) mid.open_is g true first).1.earlier_is
 
-  recalls : Recalls old (after so_far).builds → Recalls new (record { active = g.active; notices = (after so_far).notices ++ has.own } ∷ (after so_far).builds)
+  recalls : Recalls old (after so_far).builds → Recalls new (record { active = g.active; notices = (after so_far).notices ++ has.own; cleaned = [] } ∷ (after so_far).builds)
   recalls remembers =
       let known : Remembers space g.earlier old.kept =
       subst (λ bs. Remembers space bs old.kept) (sym earlier_is) (subst (λ f. RemembersIn f old.kept (after so_far).builds) space_is remembers) in
       let still : Remembers space (told_by g ((after so_far).notices ++ has.own) ∷ g.earlier) kept = has.remembers g (after so_far).notices (shows old.shown) at_work known in
-      subst (λ f. RemembersIn f new.kept (record { active = g.active; notices = (after so_far).notices ++ has.own } ∷ (after so_far).builds)) (sym (workspace ∙ space_is))
-      (subst (λ k. Remembers space (record { active = g.active; notices = (after so_far).notices ++ has.own } ∷ (after so_far).builds) k) (sym kept_is)
+      subst (λ f. RemembersIn f new.kept (record { active = g.active; notices = (after so_far).notices ++ has.own; cleaned = [] } ∷ (after so_far).builds)) (sym (workspace ∙ space_is))
+      (subst (λ k. Remembers space (record { active = g.active; notices = (after so_far).notices ++ has.own; cleaned = [] } ∷ (after so_far).builds) k) (sym kept_is)
       (subst (λ bs. Remembers space (told_by g ((after so_far).notices ++ has.own) ∷ bs) kept) earlier_is still))
 
   framed : IsFramed (cancelled_said g.active.id g.active.build.origin)

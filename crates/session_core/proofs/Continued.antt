@@ -12,6 +12,7 @@ use Rattle.session_build.specs.Outgoing.{outgoing_said}
 use Rattle.session_build.specs.Remembering.{Remembers}
 use Rattle.session_build.specs.declared.building.Build.{Build}
 use Rattle.session_build.specs.declared.building.Went.{Went}
+use Rattle.session_build.specs.declared.building.Remains.{Remains}
 use Rattle.session_build.specs.declared.building.Went.TheVariants.{On, Ended}
 use Rattle.session_build.specs.declared.outgoing.Outgoing.{Outgoing}
 use Rattle.session_build.proofs.RestLaws.{work_is}
@@ -167,7 +168,7 @@ module _ (old new : Core) (it : Awaiting) (is : old.head ≡ Some (awaiting_head
     waits_whole = subst (λ (core : Core). Whole core [] [] order) (sym goes_so.0) rested_whole
 
   -- it told all
-  module _ (failed : Bool) (went_is : went_by.went ≡ Ended failed) where
+  module _ (failed : Bool) (remains : Remains) (went_is : went_by.went ≡ Ended failed remains) where
     ends : IsBuilt g.active g.earlier g.table (shows new.shown) new.kept (now.notices ++ own) failed
     ends = subst (λ w. IsWith g w (now.notices ++ own) (shows new.shown) new.kept) went_is gone
 
@@ -180,11 +181,11 @@ module _ (old new : Core) (it : Awaiting) (is : old.head ≡ Some (awaiting_head
       record { are = ends.are; active_is = refl; earlier_is = ends.earlier_is ∙ given_so.earlier_is; table_is = ends.table_is ∙ given_so.table_is },
     )
 
-    ends_so : HasWent (record old { head = None; kept = new.kept; shown = new.shown }) new it.id it.number it.origin (Ended failed) went_by.told
+    ends_so : HasWent (record old { head = None; kept = new.kept; shown = new.shown }) new it.id it.number it.origin (Ended failed remains) went_by.told
     ends_so = subst (λ w. HasWent (record old { head = None; kept = new.kept; shown = new.shown }) new it.id it.number it.origin w went_by.told) went_is went_by.goes
 
     abbrev answered : Core
-    answered = record old { head = None; kept = new.kept; shown = new.shown; out = new.out }
+    answered = record old { head = None; kept = new.kept; shown = new.shown; out = new.out; remains = new.remains }
 
     id_so : of.active.id ≡ it.id
     id_so = ap (λ (a : Active). a.id) ends.active_is ∙ fits.1.id_is
@@ -200,11 +201,11 @@ module _ (old new : Core) (it : Awaiting) (is : old.head ≡ Some (awaiting_head
         said_is (went_by.told ++ build_said it.id it.origin failed ∷ []) ends_so.1
         ∙ (ap (λ ms. onto (ms ++ build_said it.id it.origin failed ∷ []) order) told_is ∙ onto-push own (build_said it.id it.origin failed) order)
 
-    keeps : Recalls old now.builds → RemembersIn old.workspace new.kept (record { active = of.active; notices = now.notices ++ own } ∷ now.builds)
+    keeps : Recalls old now.builds → RemembersIn old.workspace new.kept (record { active = of.active; notices = now.notices ++ own; cleaned = [] } ∷ now.builds)
     keeps before =
-        subst (λ f. RemembersIn f new.kept (record { active = of.active; notices = now.notices ++ own } ∷ now.builds)) (sym fits.1.space_is)
-        (subst (λ bs. Remembers g.active.build.space (record { active = of.active; notices = now.notices ++ own } ∷ bs) new.kept) given_so.earlier_is
-        (subst (λ (a : Active). Remembers g.active.build.space (record { active = a; notices = now.notices ++ own } ∷ g.earlier) new.kept) (sym ends.active_is) ends.remembers))
+        subst (λ f. RemembersIn f new.kept (record { active = of.active; notices = now.notices ++ own; cleaned = [] } ∷ now.builds)) (sym fits.1.space_is)
+        (subst (λ bs. Remembers g.active.build.space (record { active = of.active; notices = now.notices ++ own; cleaned = [] } ∷ bs) new.kept) given_so.earlier_is
+        (subst (λ (a : Active). Remembers g.active.build.space (record { active = a; notices = now.notices ++ own; cleaned = [] } ∷ g.earlier) new.kept) (sym ends.active_is) ends.remembers))
 
     ended_mid : Mid (plain_of answered) (Recalls answered) (record o { first = none }) (write (build_answer of.active.id of.active.build ends.ended.findings) ∷ onto own order)
     ended_mid =
@@ -231,7 +232,7 @@ module _ (old new : Core) (it : Awaiting) (is : old.head ≡ Some (awaiting_head
     where
       by : (went : Went) → went_by.went ≡ went → Whole new [] [] order
       by (On b) went_is = waits_whole b went_is
-      by (Ended failed) went_is = ends_whole failed went_is
+      by (Ended failed remains) went_is = ends_whole failed remains went_is
 
 -- ---- the build was taken out at the head, for one of its jobs
 

@@ -11,7 +11,7 @@ use Rattle.rpc_peer.specs.declared.message.Id.{Id}
 use Rattle.target_graph.specs.Workspace.{Space}
 use Rattle.session_law.specs.AnswersAtOnce.{MayWait, Waits}
 use Rattle.session_law.specs.Lawful.{EachAllowed}
-use Rattle.session_law.specs.Methods.{Verdict, asking, opening, queued, building, built, answering, closing, refusal, is_named}
+use Rattle.session_law.specs.Methods.{Verdict, asking, opening, queued, building, built, rereading, reloading, cleaning, answering, closing, refusal, is_named}
 use Rattle.session_law.specs.Order.{Event, take, ends, hand, write}
 use Rattle.session_law.specs.Past.{after, exit_status, status_after}
 use Rattle.session_law.specs.Requests.{Asked, cancelled_id, cancels, closed_by, first_marked, first_up, handed_by, has_this_id, is_of_queue, marked_if, marked_where, opened_by, without}
@@ -26,6 +26,9 @@ no_status status same = cc
 waits_queued : (v : Verdict) → MayWait v → is_of_queue v ≡ true
 waits_queued (queued call) may = refl
 waits_queued (built build entries) may = refl
+waits_queued (rereading space) may = refl
+waits_queued (reloading space file) may = refl
+waits_queued (cleaning space targets) may = refl
 waits_queued (asking root) may = absurd may
 waits_queued (opening root file) may = absurd may
 waits_queued (building build) may = absurd may

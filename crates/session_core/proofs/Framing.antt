@@ -17,7 +17,7 @@ use Rattle.rpc_peer.specs.declared.message.Id.{Id}
 use Rattle.rpc_peer.specs.declared.message.Id.TheVariants.{Number, Text}
 use Rattle.rpc_peer.specs.Said.{IsId, HasText, id_data, id_limit, answered_data, error_data, version, body_of, result, failure}
 use Rattle.rpc_frame.specs.Limits.{content_limit}
-use Rattle.bsp_records.specs.Results.{compile_result_data, status_data}
+use Rattle.bsp_records.specs.Results.{clean_cache_result_data, compile_result_data, status_data}
 use Rattle.bsp_records.specs.declared.results.StatusCode.{StatusCode}
 use Rattle.bsp_records.specs.declared.results.StatusCode.TheVariants as statuses
 use Rattle.json_shape.specs.Shapes.{IsTextWithin}
@@ -25,6 +25,7 @@ use Rattle.bsp_records.specs.ShortAnswers.{answer_limit}
 use Rattle.bsp_records.proofs.ShortLaws.{length_member, text_short}
 use Rattle.bsp_records.specs.Limits.{origin_limit}
 use Rattle.session_law.specs.Builds.{build_said, build_status, cancelled_said}
+use Rattle.session_law.specs.CancelsForCause.{refused_cancelled}
 use Rattle.session_law.specs.IsFramed.{IsFramed}
 use Rattle.session_law.specs.Methods.{initialize_result, null_message, kind_text, name_behind}
 use Rattle.rpc_peer.specs.Meaning.{parse_error}
@@ -318,6 +319,7 @@ code_fits reasons.MethodNotFound = omega (arith, ints)
 code_fits (reasons.InvalidParams path) = omega (arith, ints)
 code_fits reasons.InternalError = omega (arith, ints)
 code_fits (reasons.WorkspaceRefused fault) = omega (arith, ints)
+code_fits reasons.RequestCancelled = omega (arith, ints)
 
 framed_reason : (id : Id) (reason : Reason) → IsId id → IsSaid (Refused reason) → IsFramed (failure (Some id) (reason_code reason) (reason_text reason))
 framed_reason id reasons.ServerNotInitialized h said = framed_refusal id _ _ h (code_fits reasons.ServerNotInitialized) (text_from_test (codes "server not initialized") refl) (lit≤ tt)
@@ -338,6 +340,7 @@ framed_reason id (reasons.WorkspaceRefused fault) h said =
     let n = behind_short fault.name in
     let s = said.short in
     omega (arith, l, m, k, n, s))
+framed_reason id reasons.RequestCancelled h said = framed_refusal id _ _ h (code_fits reasons.RequestCancelled) (text_from_test (codes "request cancelled") refl) (lit≤ tt)
 
 null_short : (b : Bool) → length (cond b (codes "parse error") (codes "invalid request")) ≤ 6000
 null_short true = lit≤ tt
@@ -353,6 +356,26 @@ framed_unread code h =
       exact = rw (integer_exact code);
       fits = failure_fits None code _ (lit≤ tt) (error_short code _ h (null_short parse));
     }
+
+pub framed_refused_cancelled : (id : Id) → IsId id → IsFramed (refused_cancelled id)
+unfolding refused_cancelled
+framed_refused_cancelled id h = framed_reason id reasons.RequestCancelled h tt
+
+-- ---- the response to a cleaning
+
+cleaned_exact : has_float (clean_cache_result_data (record { cleaned = true })) ≡ false
+unfolding serde_json_on_literals
+cleaned_exact = refl
+
+cleaned_short : length (compact_text (clean_cache_result_data (record { cleaned = true }))) ≤ answer_limit
+unfolding serde_json_on_literals
+cleaned_short = lit≤ tt
+
+pub framed_cleaned : (id : Id) → IsId id → IsFramed (result (Some id) (clean_cache_result_data (record { cleaned = true })))
+framed_cleaned id h = framed_result id (clean_cache_result_data (record { cleaned = true })) h (record { exact = cleaned_exact; short = cleaned_short })
+
+pub framed_null : (id : Id) → IsId id → IsFramed (result (Some id) null)
+framed_null id h = framed_closing id h
 
 pub framed_answer : (id : Id) (answer : Answer) → IsId id → IsSaid answer → IsFramed (answer_to id answer)
 framed_answer id (Result value) h said = framed_result id (view value) h said

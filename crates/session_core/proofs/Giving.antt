@@ -30,6 +30,7 @@ use Rattle.worker_pool.specs.Plain.{plain_job}
 
 unbuilt_phase : (phase : Phase) → IfBuiltPhase phase (λ b. ⊥) → (P : Build → Type 0) → IfBuiltPhase phase P
 unbuilt_phase (phases.Opening root) none P = tt
+unbuilt_phase phases.Rereading none P = tt
 unbuilt_phase (phases.Planned plan) none P = tt
 unbuilt_phase (phases.Built b origin) none P = absurd none
 
@@ -39,6 +40,7 @@ unbuilt_any (Some head) none P = unbuilt_phase head.phase none P
 
 unbuilt_phase_awaits : (phase : Phase) (jobs given number : ℕ) → IfBuiltPhase phase (λ b. ⊥) → ¬ (AwaitsPhase phase jobs given number)
 unbuilt_phase_awaits (phases.Opening root) jobs given number none awaits = awaits
+unbuilt_phase_awaits phases.Rereading jobs given number none awaits = awaits
 unbuilt_phase_awaits (phases.Planned plan) jobs given number none awaits = awaits
 unbuilt_phase_awaits (phases.Built b origin) jobs given number none awaits = none
 
@@ -54,7 +56,7 @@ module _ (old went new : Core) (it : Awaiting) (number : ℕ) (is : old.head ≡
     (stays : HeadStays went.head new.head) (same : KeepsJobs went new) where
   went_jobs : (w : Went) → HasWent (record old { head = None; kept = went.kept; shown = went.shown }) went it.id it.number it.origin w by.told → (went.jobs ≡ old.jobs) × (went.given ≡ old.given)
   went_jobs (On b) so = (ap (λ (c : Core). c.jobs) so.0, ap (λ (c : Core). c.given) so.0)
-  went_jobs (Ended failed) so = (ap (λ (c : Core). c.jobs) so.0, ap (λ (c : Core). c.given) so.0)
+  went_jobs (Ended failed remains) so = (ap (λ (c : Core). c.jobs) so.0, ap (λ (c : Core). c.given) so.0)
 
   jobs_is : new.jobs ≡ old.jobs
   jobs_is = same.jobs ∙ (went_jobs by.went by.goes).0
@@ -65,7 +67,7 @@ module _ (old went new : Core) (it : Awaiting) (number : ℕ) (is : old.head ≡
   went_head : (w : Went) → HasWent (record old { head = None; kept = went.kept; shown = went.shown }) went it.id it.number it.origin w by.told → Leaves it.build it.check w
       → IsUnbuilt went.head ⊎ ((b : Build) × RunsOn it.build it.check b × (went.head ≡ Some (built_head it.id it.number b it.origin)))
   went_head (On b) so leaves = inr (b, leaves, ap (λ (c : Core). c.head) so.0)
-  went_head (Ended failed) so leaves = inl (subst (λ (h : Option Head). IsUnbuilt h) (sym (ap (λ (c : Core). c.head) so.0)) tt)
+  went_head (Ended failed remains) so leaves = inl (subst (λ (h : Option Head). IsUnbuilt h) (sym (ap (λ (c : Core). c.head) so.0)) tt)
 
   new_head : IsUnbuilt new.head ⊎ ((b : Build) × RunsOn it.build it.check b × (new.head ≡ Some (built_head it.id it.number b it.origin)))
   new_head = on stays (went_head by.went by.goes by.leaves)
@@ -170,7 +172,7 @@ module _ (old went : Core) (it : Awaiting) (is : old.head ≡ Some (awaiting_hea
             checks = numbered_on b leaves;
             drains = λ drains. absurd (true≢false (sym drains ∙ needs.drains));
           })
-      sound_by (Ended failed) so rests leaves =
+      sound_by (Ended failed remains) so rests leaves =
           subst IsSound (sym (ap rest_of so.0))
           (record {
             rests = tt;
@@ -272,6 +274,7 @@ settled_asked old tree drains given settled wants unbuilt numbers checks =
 numbered_phase : (phase : Phase) (jobs given : ℕ) (job : JobTree) → PhaseRests phase → IfBuiltPhase phase (AreNumbered jobs given) → jobs ≤ given → job.number ≡ given
     → IfBuiltPhase phase (λ b. (k : ℕ) → job.number ≡ jobs + k → IsJob b k job) → IfBuiltPhase phase (AreNumbered jobs (suc given))
 numbered_phase (phases.Opening root) jobs given job rests checks few is back = tt
+numbered_phase phases.Rereading jobs given job rests checks few is back = tt
 numbered_phase (phases.Planned plan) jobs given job rests checks few is back = tt
 numbered_phase (phases.Built b origin) jobs given job rests checks few is back =
     let at : job.number ≡ jobs + (given - jobs) = omega (arith, few, is) in
@@ -307,4 +310,4 @@ on_if_ok (Err error) P holds then = tt
 pub went_keeps : (old new : Core) (id : Id) (number : ℕ) (origin : Option (List ℕ)) (went : Went) (told : List Said) → HasWent old new id number origin went told
     → (old.kept ≡ new.kept) × (old.shown ≡ new.shown)
 went_keeps old new id number origin (On b) told goes = (sym (ap (λ (c : Core). c.kept) goes.0), sym (ap (λ (c : Core). c.shown) goes.0))
-went_keeps old new id number origin (Ended failed) told goes = (sym (ap (λ (c : Core). c.kept) goes.0), sym (ap (λ (c : Core). c.shown) goes.0))
+went_keeps old new id number origin (Ended failed remains) told goes = (sym (ap (λ (c : Core). c.kept) goes.0), sym (ap (λ (c : Core). c.shown) goes.0))

@@ -12,7 +12,7 @@ use Rattle.session_core.specs.Moving.{IsOwedFirst, IsUnmarked, RunsOn, with_firs
 use Rattle.session_core.specs.Plans.{Plan, build_in}
 use Rattle.session_core.proofs.Resting.{goes_on}
 use Rattle.session_core.specs.Settled.{HeadPlanFits, HeadWants, IsSettled, PhaseWants, PlanFits}
-use Rattle.session_core.specs.Standing.{HeadFits, IsPlanned, IsQuiet, MidOf, Moves, PhaseFits, Recalls, Whole}
+use Rattle.session_core.specs.Standing.{HeadFits, IsPlanned, IsRereading, IsQuiet, MidOf, Moves, PhaseFits, Recalls, Whole}
 use Rattle.session_core.specs.State.{asked_of, plain_of, rest_of, said_out, waiting_of}
 use Rattle.session_core.specs.declared.head.Head.{Head}
 use Rattle.session_core.specs.declared.head.Phase.{Phase}
@@ -24,7 +24,7 @@ use Rattle.session_core.specs.declared.verdicts.Reason.TheVariants as reasons
 use Rattle.session_law.proofs.MidLaws.{mid_handed}
 use Rattle.session_law.proofs.TakeLaws.{MayAsk}
 use Rattle.session_law.specs.Lawful.{AreHeld, EachAllowed}
-use Rattle.session_law.specs.Methods.{Verdict, asking, building, unreadable}
+use Rattle.session_law.specs.Methods.{Verdict, asking, building, rereading, unreadable}
 use Rattle.session_law.specs.Open.{First, Mid, Open, none, owing}
 use Rattle.session_law.specs.Order.{Event, hand, onto}
 use Rattle.session_law.specs.Past.{Now, after}
@@ -58,14 +58,14 @@ module _ (old new : Core) (head : Head) (is : old.head ≡ Some head) (quiet : I
     runs = record { first = tt; waiting = goes; last = All-nil IsUnmarked }
 
     -- it is answered
-    pub answers_hand : ((order : List Event) → Whole old [] [] order → Moves taken_out new opened (record opened { first = none })) → new.head ≡ None → new.queue ≡ old.queue → Acts old new (hand handed)
+    pub answers_hand : ((order : List Event) → Whole old [] [] order → MidOf taken_out opened (hand handed ∷ order) → MidOf new (record opened { first = none }) (hand handed ∷ order)) → new.head ≡ None → new.queue ≡ old.queue → Acts old new (hand handed)
     answers_hand moves gone queue order whole =
         record {
           first = none;
           fits = subst (λ (h : Option Head). HeadFits new h (after (onto (said_out new) (hand handed ∷ order))) none) (sym gone) refl;
           mid =
               subst (λ (q : List (Waiting Queued)). MidOf new (record { first = none; waiting = map asked_of q; last = []; nulls = [] }) (hand handed ∷ order)) (sym queue)
-              (moves order whole (hand handed ∷ order) (subst (Mid (plain_of old) (Recalls old) opened) (sym (onto_is (hand handed ∷ order))) (mid_opened order whole)));
+              (moves order whole (subst (Mid (plain_of old) (Recalls old) opened) (sym (onto_is (hand handed ∷ order))) (mid_opened order whole)));
         }
 
     -- where nothing is written nothing is lost
@@ -95,6 +95,13 @@ module _ (old : Core) (head : Head) (plan : Plan) (phase : head.phase ≡ phases
   wants_building paths within wanted =
       record { documents = plan.documents; of_build = within.documents; are = subst (λ (p : Phase). PhaseWants p paths) phase wanted }
 
+-- what a reload that waits for the workspace file is owed
+pub owed_rereading : (old : Core) (head : Head) → head.phase ≡ phases.Rereading → (space : Space) → old.workspace ≡ Some space → (now : Now) (first : First) → PhaseFits old head head.phase now first
+    → first ≡ owing head.id head.number (rereading space)
+owed_rereading old head phase space in_force now first fits =
+    let it : IsRereading old.workspace head first = subst (λ (p : Phase). PhaseFits old head p now first) phase fits in
+    it.is ∙ ap (λ s. owing head.id head.number (rereading s)) (some_same (sym it.in_force ∙ in_force))
+
 -- the tree failed, and the request at the head is refused
 abbrev pub Answers : Core → Core → Id → Open → ℕ → Verdict → Type 0
 Answers old new id o number v =
@@ -120,6 +127,8 @@ hand_lost old new handed paths settled quiet wanted held same = by old.head refl
 
     of_phase : (head : Head) → old.head ≡ Some head → (phase : Phase) → head.phase ≡ phase → PhaseWants phase paths → PlanFits old.workspace phase → ActsInVain old new (hand handed)
     of_phase head is (phases.Opening root) phase wants plan = lost_hand old new head is quiet goes handed paths held (asking root) tt wants (owed_asking old head root phase) same
+    of_phase head is phases.Rereading phase wants plan =
+        lost_hand old new head is quiet goes handed paths held (rereading plan.space) tt wants (owed_rereading old head phase plan.space plan.is) same
     of_phase head is (phases.Planned planned) phase wants plan =
         lost_hand old new head is quiet goes handed paths held (building (build_in plan.space planned)) tt (record { documents = planned.documents; of_build = plan.within.documents; are = wants })
         (owed_building old head planned phase plan.space plan.in_force) same

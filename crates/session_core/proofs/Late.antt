@@ -1,5 +1,6 @@
 -- What came of a job of a cancelled build is kept: nothing else changes.
-use Rattle.std.proofs.Common.{◌≡◌, List, Option, Some, None, sym, subst}
+use Rattle.std.proofs.Common.{List, Option, Some, None, sym, true≢false}
+use Rattle.std.specs.Prelude.{IsSome}
 use Rattle.bsp_records.specs.Table.{Table}
 use Rattle.rpc_peer.specs.Said.{Said}
 use Rattle.session_build.specs.AtWork.{IsAtWork}
@@ -23,14 +24,15 @@ use Rattle.task_stream.specs.Showing.{shows}
 pub carries_same : (core : Core) → Carries core core
 carries_same core order whole = whole
 
-module _ (old : Core) (kept : Kept) (space : Space) (in_force : old.workspace ≡ Some space)
-    (remembers : (builds : List Told) → Remembers space builds old.kept → Remembers space builds kept)
+module _ (old : Core) (kept : Kept) (begun : IsSome old.workspace)
+    (remembers : (space : Space) (builds : List Told) → Remembers space builds old.kept → Remembers space builds kept)
     (at_work_on : (g : Given) (b : Build) (told : List Said) (table : Table) → IsAtWork g b told old.kept.keys table → IsAtWork g b told kept.keys table) where
   abbrev new : Core
   new = record old { kept = kept }
 
   fits_phase : (head : Head) (phase : Phase) (now : Now) (first : First) → PhaseFits old head phase now first → PhaseFits new head phase now first
   fits_phase head (phases.Opening root) now first it = it
+  fits_phase head phases.Rereading now first it = it
   fits_phase head (phases.Planned plan) now first it = it
   fits_phase head (phases.Built b origin) now first it =
       record {
@@ -46,6 +48,10 @@ module _ (old : Core) (kept : Kept) (space : Space) (in_force : old.workspace �
   fits_head None now first fits = fits
   fits_head (Some head) now first fits = (fits.0, fits_phase head head.phase now first fits.1)
 
+  recalls_on : (force : Option Space) → IsSome force → (builds : List Told) → RemembersIn force old.kept builds → RemembersIn force kept builds
+  recalls_on None some builds recalls = absurd (true≢false (sym some))
+  recalls_on (Some space) some builds recalls = remembers space builds recalls
+
   pub carries_late : Carries old (record old { kept = kept })
   carries_late order whole =
       record {
@@ -56,9 +62,6 @@ module _ (old : Core) (kept : Kept) (space : Space) (in_force : old.workspace �
               each = whole.mid.each;
               plain_is = whole.mid.plain_is;
               open_is = whole.mid.open_is;
-              builds_are =
-                  subst (λ f. RemembersIn f kept (after (onto (said_out old) order)).builds) (sym in_force)
-                  (remembers (after (onto (said_out old) order)).builds
-                  (subst (λ f. RemembersIn f old.kept (after (onto (said_out old) order)).builds) in_force whole.mid.builds_are));
+              builds_are = recalls_on old.workspace begun (after (onto (said_out old) order)).builds whole.mid.builds_are;
             };
       }

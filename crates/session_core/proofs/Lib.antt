@@ -16,7 +16,6 @@ pub mod Late
 pub mod Moving
 pub mod Needing
 pub mod Notes
-pub mod Opened
 pub mod Opens
 pub mod Ready
 pub mod Requests
@@ -25,3 +24,4 @@ pub mod SettledHead
 pub mod Settling
 pub mod Taken
 pub mod TakingUp
+pub mod Reloaded

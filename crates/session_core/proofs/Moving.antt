@@ -1,16 +1,15 @@
 -- A core writes one message: what was so in the middle of a step is so behind it.
-use Rattle.std.proofs.Common.{◌≡◌, ◌++◌, ◌||◌, ℕ, ℤ, List, [], ◌∷◌, Bool, true, false, All, IfSome, Option, Some, None, refl, ap, sym, ◌∙◌, subst, append-nil}
+use Rattle.std.proofs.Common.{◌≡◌, ◌++◌, ◌||◌, ℕ, ℤ, List, [], ◌∷◌, Bool, true, false, All, Some, None, refl, ap, sym, ◌∙◌, subst, append-nil}
 use Rattle.rpc_peer.specs.declared.message.Id.{Id}
 use Rattle.rpc_peer.specs.Said.{Said, IsId, result}
 use Rattle.serde_json.specs.Data.{null}
 use Rattle.serde_json.specs.View.{view}
-use Rattle.bsp_records.specs.declared.identifiers.BuildTargetIdentifier.{BuildTargetIdentifier}
 use Rattle.ob_text.specs.declared.held.Held.{Held}
 use Rattle.session_build.specs.Remembering.{Remembers}
 use Rattle.session_build.specs.declared.kept.Kept.{Kept}
-use Rattle.session_core.proofs.Framing.{framed_answer}
-use Rattle.session_core.proofs.Opened.{none_checked}
-use Rattle.session_core.specs.Judging.{Fits, HasQueuedTexts, IsSaid, answer_to, answer_unread, queued_call, queued_origin, reason_code, reason_text}
+use Rattle.session_core.proofs.Framing.{framed_answer, framed_cancelled, framed_refused_cancelled}
+use Rattle.session_build.proofs.RememberLaws.{remembers_none}
+use Rattle.session_core.specs.Judging.{Fits, HasQueuedTexts, IsSaid, answer_to, answer_unread, queued_call, reason_code, reason_text}
 use Rattle.session_core.specs.Moving.{BesideHead, HeadRunsOn, IsAtOnce, IsOwedFirst, IsUnmarked, RunsOn}
 use Rattle.session_core.specs.Standing.{Moves, Recalls, RemembersIn}
 use Rattle.session_core.specs.State.{plain_of, said_out}
@@ -19,17 +18,17 @@ use Rattle.session_core.specs.declared.verdicts.Answer.{Answer}
 use Rattle.session_core.specs.declared.verdicts.Answer.TheVariants as answers
 use Rattle.session_core.specs.declared.verdicts.Queued.{Queued}
 use Rattle.session_core.specs.declared.verdicts.Queued.TheVariants as calls
-use Rattle.bsp_records.specs.Limits.{origin_limit}
-use Rattle.json_shape.specs.Shapes.{IsTextWithin}
-use Rattle.session_law.proofs.MidLaws.{mid_cancelled, mid_first_refused, mid_last_answered, mid_last_refused, mid_null, mid_opened}
+use Rattle.session_law.proofs.MidLaws.{mid_cancelled, mid_first_answered, mid_first_refused, mid_last_answered, mid_last_refused, mid_null}
 use Rattle.session_law.proofs.OpenLaws.{GoOn}
 use Rattle.session_law.specs.Builds.{cancelled_said}
+use Rattle.session_law.specs.CancelsForCause.{call_cancelled, refused_cancelled}
 use Rattle.session_law.specs.History.{Told}
 use Rattle.session_law.specs.IsFramed.{IsFramed}
-use Rattle.session_law.specs.Methods.{Verdict, asking, opening, queued, building, built, answering, closing, refusal, initialize_result, to_build}
+use Rattle.session_law.specs.Methods.{Call, Verdict, asking, opening, queued, building, built, rereading, reloading, cleaning, answering, closing, refusal, initialize_result, to_build, to_reload, to_clean}
 use Rattle.session_law.specs.Open.{First, Mid, Open, Plain, none, owing, working, asking_for}
 use Rattle.session_law.specs.Order.{Event, onto, write}
-use Rattle.session_law.specs.Past.{after, notice_in, space_in}
+use Rattle.session_law.specs.Past.{after, notice_in}
+use Rattle.session_law.specs.Reloading.{space_in}
 use Rattle.session_law.specs.Requests.{Asked}
 use Rattle.target_graph.specs.Faults.{Accepted, file_targets}
 use Rattle.target_graph.specs.Workspace.{Space}
@@ -51,10 +50,6 @@ pub notices_said : (before after_it : List Said) (m : Said) → notice_in m ≡ 
 notices_said before after_it m silent is order =
     ap (λ past. (after past).notices) (ap (λ ms. onto ms order) is ∙ onto-push before m order)
     ∙ (ap (λ n. (after (onto before order)).notices ++ n) silent ∙ append-nil (after (onto before order)).notices)
-
-pub cancelled_silent : (id : Id) (origin : Option (List ℕ)) → notice_in (cancelled_said id origin) ≡ []
-unfolding cancelled_said
-cancelled_silent id origin = refl
 
 goes_first : (first : First) → HeadRunsOn first → Rattle.session_law.proofs.OpenLaws.GoesOn first
 goes_first none goes = tt
@@ -86,9 +81,9 @@ pub last_answered : (p : Plain) (R : List Told → Type 0) (o : Open) (id : Id) 
     → Mid (plain_with p answer) R (record o { last = [] }) (write (answer_to id answer) ∷ order)
 last_answered p R o id number (answering space question) (answers.Result value) named short last runs at_once fits order mid =
     subst (λ c. Mid (record p { closed = c }) R (record o { last = [] }) (write (result (Some id) (view value)) ∷ order)) (same_or p.closed)
-    (mid_last_answered p R o order mid id number (answering space question) last (goes o runs) refl refl (view value) fits (framed_answer id (answers.Result value) named short) (p.closed || false) refl refl)
+    (mid_last_answered p R o order mid id number (answering space question) last (goes o runs) refl refl (view value) fits (framed_answer id (answers.Result value) named short) (p.closed || false) refl (λ builds. refl) refl)
 last_answered p R o id number closing answers.Closing named short last runs at_once fits order mid =
-    mid_last_answered p R o order mid id number closing last (goes o runs) refl refl null refl (framed_answer id answers.Closing named short) true refl (true_or p.closed)
+    mid_last_answered p R o order mid id number closing last (goes o runs) refl refl null refl (framed_answer id answers.Closing named short) true refl (λ builds. refl) (true_or p.closed)
 last_answered p R o id number (refusal code text) (answers.Refused reason) named short last runs at_once fits order mid =
     mid_last_refused p R o order mid id number (refusal code text) last (goes o runs) refl refl (reason_code reason) (reason_text reason) fits (framed_answer id (answers.Refused reason) named short)
 last_answered p R o id number (answering space question) (answers.Opening space') named short last runs at_once fits order mid = absurd fits
@@ -105,11 +100,14 @@ last_answered p R o id number (opening root file) answer named short last runs a
 last_answered p R o id number (queued call) answer named short last runs at_once fits order mid = absurd at_once
 last_answered p R o id number (building build) answer named short last runs at_once fits order mid = absurd at_once
 last_answered p R o id number (built build entries) answer named short last runs at_once fits order mid = absurd at_once
+last_answered p R o id number (rereading space) answer named short last runs at_once fits order mid = absurd at_once
+last_answered p R o id number (reloading space file) answer named short last runs at_once fits order mid = absurd at_once
+last_answered p R o id number (cleaning space targets) answer named short last runs at_once fits order mid = absurd at_once
 
 -- ---- the request at the head
 
 -- the workspace that was accepted is the one that the file describes
-space_is : (root : List ℕ) (file : Held) (space : Space) → Accepted file root space → Some (space_in root file) ≡ Some space
+pub space_is : (root : List ℕ) (file : Held) (space : Space) → Accepted file root space → Some (space_in root file) ≡ Some space
 space_is root file space accepted =
     ap (λ r. Some (record { root = r; targets = file_targets file })) (sym accepted.at_root) ∙ ap (λ ts. Some (record { root = space.root; targets = ts })) (sym accepted.all_targets)
 
@@ -118,12 +116,12 @@ pub first_opened : (p : Plain) (R Q : List Told → Type 0) (o : Open) (id : Id)
     → Mid (record p { force = Some space }) Q (record o { first = none }) (write (result (Some id) initialize_result) ∷ order)
 first_opened p R Q o id number root file space named first runs accepted remembers order mid =
     subst (λ f. Mid (record p { force = f }) Q (record o { first = none }) (write (result (Some id) initialize_result) ∷ order)) (space_is root file space accepted)
-    (mid_opened p R o order mid id number (opening root file) first (goes o runs) initialize_result root file refl (record { space = space; accepted = accepted }, refl)
-    (framed_answer id (answers.Opening space) named tt) Q (λ before. remembers _ before))
+    (mid_first_answered p R o order mid id number (opening root file) first (goes o runs) initialize_result refl (record { space = space; accepted = accepted }, refl)
+    (framed_answer id (answers.Opening space) named tt) refl Q (λ before. remembers _ before))
 
 -- as a session opens no build was answered, and no check is kept
 opens : (space : Space) (kept : Kept) (builds : List Told) → RemembersIn None kept builds → RemembersIn (Some space) kept builds
-opens space kept builds nothing = subst (λ bs. Remembers space bs kept) (sym nothing.0) (none_checked space kept nothing.1)
+opens space kept builds nothing = subst (λ bs. Remembers space bs kept) (sym nothing.0) (remembers_none space kept nothing.1)
 
 pub first_answered : (p : Plain) (kept : Kept) (o : Open) (id : Id) (number : ℕ) (v : Verdict) (answer : Answer) → IsId id → IsSaid answer
     → o.first ≡ owing id number v → RunsOn o → IsOwedFirst p.force v → Fits v answer → (order : List Event) → Mid p (RemembersIn p.force kept) o order
@@ -132,11 +130,19 @@ first_answered p kept o id number (opening root file) (answers.Opening space) na
     first_opened p (RemembersIn p.force kept) (RemembersIn (Some space) kept) o id number root file space named first runs fits
     (λ builds nothing. opens space kept builds (subst (λ f. RemembersIn f kept builds) owed nothing)) order mid
 first_answered p kept o id number (opening root file) (answers.Refused reason) named short first runs owed fits order mid =
-    mid_first_refused p (RemembersIn p.force kept) o order mid id number (opening root file) first (goes o runs) (reason_code reason) (reason_text reason) refl fits
+    mid_first_refused p (RemembersIn p.force kept) o order mid id number (opening root file) first (goes o runs) (reason_code reason) (reason_text reason) fits
     (framed_answer id (answers.Refused reason) named short)
 first_answered p kept o id number (refusal code text) (answers.Refused reason) named short first runs owed fits order mid =
-    mid_first_refused p (RemembersIn p.force kept) o order mid id number (refusal code text) first (goes o runs) (reason_code reason) (reason_text reason) refl fits
+    mid_first_refused p (RemembersIn p.force kept) o order mid id number (refusal code text) first (goes o runs) (reason_code reason) (reason_text reason) fits
     (framed_answer id (answers.Refused reason) named short)
+first_answered p kept o id number (reloading space file) (answers.Refused reason) named short first runs owed fits order mid =
+    mid_first_refused p (RemembersIn p.force kept) o order mid id number (reloading space file) first (goes o runs) (reason_code reason) (reason_text reason) fits
+    (framed_answer id (answers.Refused reason) named short)
+first_answered p kept o id number (reloading space file) (answers.Result value) named short first runs owed fits order mid = absurd fits
+first_answered p kept o id number (reloading space file) (answers.Opening next) named short first runs owed fits order mid = absurd fits
+first_answered p kept o id number (reloading space file) answers.Closing named short first runs owed fits order mid = absurd fits
+first_answered p kept o id number (rereading space) answer named short first runs owed fits order mid = absurd owed
+first_answered p kept o id number (cleaning space targets) answer named short first runs owed fits order mid = absurd owed
 first_answered p kept o id number (opening root file) (answers.Result value) named short first runs owed fits order mid = absurd fits
 first_answered p kept o id number (opening root file) answers.Closing named short first runs owed fits order mid = absurd fits
 first_answered p kept o id number (refusal code text) (answers.Result value) named short first runs owed fits order mid = absurd fits
@@ -189,23 +195,26 @@ says_null old new code said same framed o later nulls runs order mid =
 
 -- ---- a request that waits is cancelled
 
-abbrev pub queued_targets : Queued → List BuildTargetIdentifier
-queued_targets (calls.Build params) = params.targets
+pub call_silent : (id : Id) (call : Call) → notice_in (call_cancelled id call) ≡ []
+unfolding cancelled_said refused_cancelled
+call_silent id (to_build targets origin) = refl
+call_silent id to_reload = refl
+call_silent id (to_clean targets) = refl
 
-pub queued_is : (call : Queued) → queued (queued_call call) ≡ queued (to_build (queued_targets call) (queued_origin call))
-queued_is (calls.Build params) = refl
+-- its answer fits a frame
+pub framed_call : (id : Id) (call : Queued) → IsId id → HasQueuedTexts call → IsFramed (call_cancelled id (queued_call call))
+framed_call id (calls.Build params) named texts = framed_cancelled id params.origin_id named texts.origin_id
+framed_call id calls.Reload named texts = framed_refused_cancelled id named
+framed_call id (calls.Clean params) named texts = framed_refused_cancelled id named
 
-pub origin_short : (call : Queued) → HasQueuedTexts call → IfSome (queued_origin call) (IsTextWithin origin_limit)
-origin_short (calls.Build params) texts = texts.origin_id
-
-pub says_cancelled : (old new : Core) (asked : Asked) (targets : List BuildTargetIdentifier) (origin : Option (List ℕ)) → asked.verdict ≡ queued (to_build targets origin)
-    → said_out new ≡ said_out old ++ cancelled_said asked.id origin ∷ [] → new ≡ record old { out = new.out } → IsFramed (cancelled_said asked.id origin)
+pub says_cancelled : (old new : Core) (asked : Asked) (call : Call) → asked.verdict ≡ queued call
+    → said_out new ≡ said_out old ++ call_cancelled asked.id call ∷ [] → new ≡ record old { out = new.out } → IsFramed (call_cancelled asked.id call)
     → (o : Open) (ws rest : List Asked) → o.waiting ≡ ws ++ asked ∷ rest → HeadRunsOn o.first → All IsUnmarked ws → asked.cancelled ≡ true
     → Moves old new o (record o { waiting = ws ++ rest })
-says_cancelled old new asked targets origin call said same framed o ws rest waits goes_on before mark order mid =
+says_cancelled old new asked call waits_for said same framed o ws rest waits goes_on before mark order mid =
     subst (λ (core : Core). Mid (plain_of core) (Recalls core) (record o { waiting = ws ++ rest }) (onto (said_out new) order)) (sym same)
-    (wrote_one (plain_of old) (plain_of old) (Recalls old) (Recalls old) o (record o { waiting = ws ++ rest }) (said_out old) (said_out new) (cancelled_said asked.id origin) said
-    (λ past now. mid_cancelled (plain_of old) (Recalls old) o past now ws rest asked waits targets origin call (goes_first o.first goes_on) before mark framed) order mid)
+    (wrote_one (plain_of old) (plain_of old) (Recalls old) (Recalls old) o (record o { waiting = ws ++ rest }) (said_out old) (said_out new) (call_cancelled asked.id call) said
+    (λ past now. mid_cancelled (plain_of old) (Recalls old) o past now ws rest asked waits call waits_for (goes_first o.first goes_on) before mark framed) order mid)
 
 -- ---- what a session is beside what is open
 

@@ -77,6 +77,7 @@ module _ (old new : Core) (by : Id → Bool) (before later : Now) (first : First
   phase_marked : (head : Head) (phase : Phase) → IsUpHead (Some (record head { phase = phase })) → PhaseFits old head phase before first
       → PhaseFits new (record head { cancelled = head.cancelled || by head.id }) phase later (law.marked_head (marks by) first)
   phase_marked head (phases.Opening root) up fits = absurd up
+  phase_marked head phases.Rereading up fits = absurd up
   phase_marked head (phases.Planned plan) up fits = absurd up
   phase_marked head (phases.Built b origin) up fits =
       record {
@@ -112,6 +113,7 @@ module _ (core : Core) (order : List Event) (ready : IsReady core) (whole : Whol
   by_phase : (head : Head) (phase : Phase) → IsUpHead (Some (record head { phase = phase })) → PhaseFits core head phase (after order) whole.first → (head.cancelled ≡ false)
       → law.IsUp whole.first × (Rattle.session_law.proofs.OpenLaws.GoesOn whole.first × (law.HasStarted whole.first (after order) × law.WaitsBehind whole.first (waiting_of core)))
   by_phase head (phases.Opening root) up it go = absurd up
+  by_phase head phases.Rereading up it go = absurd up
   by_phase head (phases.Planned plan) up it go = absurd up
   by_phase head (phases.Built b origin) up working_is go =
       subst (λ first. law.IsUp first × (Rattle.session_law.proofs.OpenLaws.GoesOn first × (law.HasStarted first (after order) × law.WaitsBehind first (waiting_of core)))) (sym working_is.is)

@@ -40,7 +40,7 @@ use Rattle.bsp_records.specs.declared.requests.Method.TheVariants as methods
 use Rattle.bsp_records.specs.declared.requests.Request.{Request}
 use Rattle.bsp_records.specs.declared.requests.Request.TheVariants as requests
 use Rattle.target_graph.specs.Address.{root_at}
-use Rattle.session_law.specs.Methods.{Found, Verdict, all_found, answering, asked_in, asking, building, built, closing, found_from, is_initialize, known_in, opening, queued, read_in, refusal, rooted, served_in, sourced, too_late, unknown_at, verdict, verdict_for}
+use Rattle.session_law.specs.Methods.{Found, Verdict, all_found, answering, asked_in, asking, building, built, cleaning, closing, found_from, is_initialize, known_in, opening, queued, reloading, rereading, read_in, refusal, rooted, served_in, sourced, too_late, unknown_at, verdict, verdict_for}
 use Rattle.session_law.specs.Open.{Open, asking_for, none, working_on}
 use Rattle.session_law.specs.Order.{Event, onto, take}
 use Rattle.session_law.specs.Past.{Now, after, exit_status}
@@ -88,6 +88,7 @@ module _ (core : Core) (order : List Event) (rests : IsReady core) (whole : Whol
     where
       of_phase : (head : Head) (phase : Phase) → IsUpPhase phase → PhaseFits core head phase now whole.first → is_open id (is.head ++ map asked_of core.queue) ≡ (same_id id head.id || queues.is_open id core.queue)
       of_phase head (phases.Opening root) up it = absurd up
+      of_phase head phases.Rereading up it = absurd up
       of_phase head (phases.Planned plan) up it = absurd up
       of_phase head (phases.Built b origin) up it =
           let first : is.head ≡ working_on it.given head.cancelled ∷ [] = (subst (λ f. Rattle.session_law.specs.Open.IsFirst f now is.head) it.is is.first_is).0 in
@@ -127,6 +128,7 @@ fits_closes (answering space question) (answers.Result value) it = refl
 fits_closes closing answers.Closing it = refl
 fits_closes (opening root file) (answers.Opening space) it = refl
 fits_closes (opening root file) (answers.Refused reason) it = refl
+fits_closes (reloading space file) (answers.Refused reason) it = refl
 fits_closes (refusal code text) (answers.Refused reason) it = refl
 fits_closes (answering space question) (answers.Opening space') it = absurd it
 fits_closes (answering space question) answers.Closing it = absurd it
@@ -143,6 +145,11 @@ fits_closes (asking root) answer it = absurd it
 fits_closes (queued call) answer it = absurd it
 fits_closes (building build) answer it = absurd it
 fits_closes (built build entries) answer it = absurd it
+fits_closes (reloading space file) (answers.Result value) it = absurd it
+fits_closes (reloading space file) (answers.Opening next) it = absurd it
+fits_closes (reloading space file) answers.Closing it = absurd it
+fits_closes (rereading space) answer it = absurd it
+fits_closes (cleaning space targets) answer it = absurd it
 
 pub or_no : (a b : Bool) → (a || b) ≡ false → b ≡ false
 or_no true b is = absurd (true≢false is)
@@ -159,6 +166,9 @@ IsTaken (queued call) = Unit {0}
 IsTaken (opening root file) = ⊥
 IsTaken (building build) = ⊥
 IsTaken (built build entries) = ⊥
+IsTaken (rereading space) = ⊥
+IsTaken (reloading space file) = ⊥
+IsTaken (cleaning space targets) = ⊥
 
 taken_if : (b : Bool) (x y : Verdict) → IsTaken x → IsTaken y → IsTaken (cond b x y)
 taken_if true x y one other = one
@@ -176,15 +186,19 @@ taken_asked : (force : Option Space) (asks : Request) → IsTaken (asked_in forc
 taken_asked None (requests.Initialize p) = taken_root (root_at p.root_uri)
 taken_asked None requests.Shutdown = tt
 taken_asked None requests.BuildTargets = tt
+taken_asked None requests.Reload = tt
 taken_asked None (requests.Sources p) = tt
 taken_asked None (requests.InverseSources p) = tt
 taken_asked None (requests.Compile p) = tt
+taken_asked None (requests.CleanCache p) = tt
 taken_asked (Some space) (requests.Initialize p) = tt
 taken_asked (Some space) requests.Shutdown = tt
 taken_asked (Some space) requests.BuildTargets = tt
+taken_asked (Some space) requests.Reload = tt
 taken_asked (Some space) (requests.Sources p) = taken_sources space (found_from space 0 p.targets)
 taken_asked (Some space) (requests.InverseSources p) = tt
 taken_asked (Some space) (requests.Compile p) = tt
+taken_asked (Some space) (requests.CleanCache p) = tt
 
 taken_read : (force : Option Space) (read : Result Request (List ℕ)) → IsTaken (read_in force read)
 taken_read force (Err path) = tt
@@ -213,6 +227,9 @@ taken_once (queued call) answer taken fit = absurd fit
 taken_once (opening root file) answer taken fit = absurd taken
 taken_once (building build) answer taken fit = absurd taken
 taken_once (built build entries) answer taken fit = absurd taken
+taken_once (rereading space) answer taken fit = absurd taken
+taken_once (reloading space file) answer taken fit = absurd taken
+taken_once (cleaning space targets) answer taken fit = absurd taken
 
 -- what has an answer is owed it at once
 pub at_once : (name : List ℕ) (params : Option Data) (force : Option Space) (closed : Bool) (answer : Answer) → Fits (verdict name params force closed) answer → IsAtOnce (verdict name params force closed)
@@ -230,6 +247,9 @@ is_shutdown v answer fit so = by v (fits_closes v answer fit ∙ so)
     by (queued call) so = absurd (true≢false (sym so))
     by (building build) so = absurd (true≢false (sym so))
     by (built build entries) so = absurd (true≢false (sym so))
+    by (rereading space) so = absurd (true≢false (sym so))
+    by (reloading space file) so = absurd (true≢false (sym so))
+    by (cleaning space targets) so = absurd (true≢false (sym so))
 
 -- where nothing is written nothing is lost
 pub lost_behind : (old new : Core) → new.out.items ≡ old.out.items → (nulls : List ℤ) (last : List Asked) (order : List Event) → Whole old last nulls order → EachAllowed (onto (said_out new) order)
@@ -341,5 +361,6 @@ nobody_first None (Some head) queue begun none_there up = absurd (by head.phase 
   where
     by : (phase : Phase) → Rattle.session_core.specs.Settled.IsOpeningPhase phase → IsUpPhase phase → ⊥
     by (phases.Opening root) first up = up
+    by phases.Rereading first up = first
     by (phases.Planned plan) first up = first
     by (phases.Built b origin) first up = first

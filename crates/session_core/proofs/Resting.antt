@@ -6,7 +6,7 @@ use Rattle.std.proofs.lemmas.List.Elements.{All-cons, All-head, All-nil, All-tai
 use Rattle.rpc_peer.specs.declared.message.Id.{Id}
 use Rattle.session_core.specs.Marking.{marked, marked_all, marked_head}
 use Rattle.session_core.specs.Moving.{Beside, BesideHead, BesideQueue, HasWaitingTexts, IsUnmarked}
-use Rattle.session_core.specs.Settled.{AreNumbered, HasBegun, HasNone, HeadPlanFits, HeadStays, HeadWants, IfBuilt, IsAsking, IsSettled, IsSound, IsUnbuilt, SettlesHeadRest, SettlesRest, TakesUpRest, head_left, left_to_do, planned_rest, steps_limit}
+use Rattle.session_core.specs.Settled.{AreNumbered, HasBegun, HasNone, HeadPlanFits, HeadStays, HeadWants, IfBuilt, IsAsking, IsSettled, IsSound, IsUnbuilt, SettlesHeadRest, SettlesRest, TakesUpRest, answered, head_left, left_to_do, planned, planned_rest, reread, reread_rest, steps_limit}
 use Rattle.session_core.specs.Standing.{GoesOn, HeadGoesOn, HeadRests, IsUpHead}
 use Rattle.session_core.specs.State.{Rest, asked_of, rest_of}
 use Rattle.session_core.specs.declared.head.Head.{Head}
@@ -164,7 +164,7 @@ module _ (r s : Rest) (waiting : Waiting Queued) (queue : List (Waiting Queued))
       by (Some space) some = tt
 
   pub sound_taken : TakesUpRest (record r { queue = queue }) s waiting.id waiting.number → IsSound s
-  sound_taken (inl same) =
+  sound_taken (answered same) =
       subst IsSound (sym same)
       (record {
         rests = sound.rests;
@@ -178,7 +178,7 @@ module _ (r s : Rest) (waiting : Waiting Queued) (queue : List (Waiting Queued))
         checks = sound.checks;
         drains = sound.drains;
       })
-  sound_taken (inr (plan, planned, same)) =
+  sound_taken (planned plan fits same) =
       subst IsSound (sym same)
       (record {
         rests = ((All-head HasWaitingTexts waiting queue texts_are).named, tt);
@@ -186,7 +186,21 @@ module _ (r s : Rest) (waiting : Waiting Queued) (queue : List (Waiting Queued))
         goes_on = refl;
         waiting = behind_it;
         begun = begun_rest (planned_rest r waiting.id waiting.number plan).head;
-        plan = planned;
+        plan = fits;
+        tree = refl;
+        numbers = sound.numbers;
+        checks = tt;
+        drains = λ drains. tt;
+      })
+  sound_taken (reread force same) =
+      subst IsSound (sym same)
+      (record {
+        rests = ((All-head HasWaitingTexts waiting queue texts_are).named, tt);
+        texts = All-tail HasWaitingTexts waiting queue texts_are;
+        goes_on = refl;
+        waiting = behind_it;
+        begun = begun_rest (reread_rest r waiting.id waiting.number).head;
+        plan = force;
         tree = refl;
         numbers = sound.numbers;
         checks = tt;
@@ -194,21 +208,26 @@ module _ (r s : Rest) (waiting : Waiting Queued) (queue : List (Waiting Queued))
       })
 
   pub asking_taken : TakesUpRest (record r { queue = queue }) s waiting.id waiting.number → IsAsking s
-  asking_taken (inl same) = subst IsAsking (sym same) (λ nothing. subst IsUpHead (sym nobody) tt)
-  asking_taken (inr (plan, planned, same)) = subst IsAsking (sym same) (λ nothing. absurd (cc))
+  asking_taken (answered same) = subst IsAsking (sym same) (λ nothing. subst IsUpHead (sym nobody) tt)
+  asking_taken (planned plan fits same) = subst IsAsking (sym same) (λ nothing. absurd (cc))
+  asking_taken (reread force same) = subst IsAsking (sym same) (λ nothing. absurd (cc))
 
   pub stays_taken : (head : Option Head) → TakesUpRest (record r { queue = queue }) s waiting.id waiting.number → HeadStays head s.head
-  stays_taken head (inl same) = inr (subst (λ h. IsUnbuilt h) (sym (ap (λ (x : Rest). x.head) same ∙ nobody)) tt)
-  stays_taken head (inr (plan, planned, same)) = inr (subst (λ h. IsUnbuilt h) (sym (ap (λ (x : Rest). x.head) same)) tt)
+  stays_taken head (answered same) = inr (subst (λ h. IsUnbuilt h) (sym (ap (λ (x : Rest). x.head) same ∙ nobody)) tt)
+  stays_taken head (planned plan fits same) = inr (subst (λ h. IsUnbuilt h) (sym (ap (λ (x : Rest). x.head) same)) tt)
+  stays_taken head (reread force same) = inr (subst (λ h. IsUnbuilt h) (sym (ap (λ (x : Rest). x.head) same)) tt)
 
   left_is : left_to_do r ≡ suc (length queue) * (steps_limit + 2) + 0
   left_is = λ i. length (was i) * (steps_limit + 2) + head_left (nobody i)
 
   pub less_taken : TakesUpRest (record r { queue = queue }) s waiting.id waiting.number → left_to_do s < left_to_do r
-  less_taken (inl same) =
+  less_taken (answered same) =
       let is : left_to_do s ≡ length queue * (steps_limit + 2) + 0 = ap left_to_do same ∙ (λ i. length queue * (steps_limit + 2) + head_left (nobody i)) in
       omega (arith, is, left_is)
-  less_taken (inr (plan, planned, same)) =
+  less_taken (planned plan fits same) =
+      let is : left_to_do s ≡ length queue * (steps_limit + 2) + suc steps_limit = ap left_to_do same in
+      omega (arith, is, left_is)
+  less_taken (reread force same) =
       let is : left_to_do s ≡ length queue * (steps_limit + 2) + suc steps_limit = ap left_to_do same in
       omega (arith, is, left_is)
 
@@ -280,6 +299,27 @@ pub head_gone : (old : Rest) (new : Core) → HasNone old (rest_of new) → IsUp
 head_gone old new has = subst (λ (h : Option Head). IsUpHead h) (sym (ap (λ (r : Rest). r.head) has.is)) tt
 
 -- ---- an initialize at the head is answered
+
+-- the head is answered, and a workspace stays in force
+pub reloaded_sound : (old new : Core) → IsSound (rest_of old) → old.tree ≡ None → rest_of new ≡ record (rest_of old) { head = None; workspace = new.workspace } → IsSome new.workspace → IsSound (rest_of new)
+reloaded_sound old new sound tree is force =
+    subst IsSound (sym is)
+    (record {
+      rests = tt;
+      texts = sound.texts;
+      goes_on = tt;
+      waiting = sound.waiting;
+      begun = begun_so new.workspace force;
+      plan = tt;
+      tree = subst (λ t. IfSome t (HeadWants None)) (sym tree) tt;
+      numbers = sound.numbers;
+      checks = tt;
+      drains = λ drains. tt;
+    })
+  where
+    begun_so : (later : Option Space) → IsSome later → HasBegun later None old.queue
+    begun_so None force = absurd (true≢false (sym force))
+    begun_so (Some space) force = tt
 
 pub opened_sound : (old new : Core) → IsSound (rest_of old) → old.tree ≡ None → Beside (record old { head = None }) new → (new.workspace ≡ None → old.workspace ≡ None) → IsSound (rest_of new)
 opened_sound old new sound tree beside force =

@@ -109,6 +109,7 @@ fits_on old new (Some head) now later first workspace kept shown notices fits = 
   where
     by : (phase : Phase) → PhaseFits old head phase now first → PhaseFits new head phase later first
     by (phases.Opening root) it = (it.0, workspace ∙ it.1)
+    by phases.Rereading it = record { space = it.space; in_force = workspace ∙ it.in_force; is = it.is }
     by (phases.Planned plan) it = record { space = it.space; in_force = workspace ∙ it.in_force; within = it.within; is = it.is }
     by (phases.Built b origin) it =
         record {
@@ -129,6 +130,7 @@ runs_first core (Some head) now first up goes fits = by head.phase up fits.1
   where
     by : (phase : Phase) → IsUpPhase phase → PhaseFits core head phase now first → HeadRunsOn first
     by (phases.Opening root) up it = absurd up
+    by phases.Rereading up it = absurd up
     by (phases.Planned plan) up it = absurd up
     by (phases.Built b origin) up it = subst HeadRunsOn (sym it.is) goes
 

@@ -4,12 +4,13 @@ use Rattle.std.specs.Prelude.{is_some}
 use Rattle.std.proofs.lemmas.List.Elements.{All-head, All-nil, All-tail}
 use Rattle.rpc_peer.specs.Said.{IsId}
 use Rattle.session_core.proofs.Moving.{recalls_same}
-use Rattle.session_core.specs.Judging.{Fits, IsPlanOf, queued_call}
+use Rattle.session_core.specs.Judging.{Fits, IsCleaningOf, IsPlanOf, IsRereadOf, queued_call}
 use Rattle.session_core.specs.Moving.{IsOwedFirst, IsUnmarked, RunsOn, with_first}
 use Rattle.session_core.specs.Plans.{Plan}
 use Rattle.session_core.specs.Standing.{Carries, GoesOn, HeadFits, Loses, MidOf, Moves, Recalls}
 use Rattle.session_core.specs.State.{asked_of, plain_of, said_out, waiting_of}
-use Rattle.session_core.specs.Taking.{HasTaken, IsTakenUp, Plans}
+use Rattle.session_core.specs.Reloading.{Cleans}
+use Rattle.session_core.specs.Taking.{HasTaken, IsTakenUp, Plans, Rereads}
 use Rattle.session_core.specs.declared.head.Head.{Head}
 use Rattle.session_core.specs.declared.head.Phase.TheVariants as phases
 use Rattle.session_core.specs.declared.session.Core.{Core}
@@ -18,7 +19,7 @@ use Rattle.session_core.specs.declared.verdicts.Queued.{Queued}
 use Rattle.session_core.specs.declared.verdicts.Reason.{Reason}
 use Rattle.session_law.proofs.MidLaws.{mid_up}
 use Rattle.session_law.specs.Lawful.{EachAllowed}
-use Rattle.session_law.specs.Methods.{Call, Found, Verdict, all_found, unknown_at, found_build, found_from, taken_in, to_build}
+use Rattle.session_law.specs.Methods.{Call, Found, Verdict, all_found, unknown_at, found_build, found_clean, found_from, taken_in, to_build, to_reload, to_clean}
 use Rattle.session_law.specs.Open.{Mid, Open, Plain, none, owing}
 use Rattle.session_law.specs.Order.{Event, onto}
 use Rattle.session_law.specs.Past.{after}
@@ -34,9 +35,15 @@ found_refused : (force : Option Space) (space : Space) (origin : Option (List �
 found_refused force space origin (all_found targets) reason fits = absurd fits
 found_refused force space origin (unknown_at index) reason fits = tt
 
+cleaned_refused : (force : Option Space) (space : Space) (found : Found) (reason : Reason) → Fits (found_clean space found) (answers.Refused reason) → IsOwedFirst force (found_clean space found)
+cleaned_refused force space (all_found targets) reason fits = absurd fits
+cleaned_refused force space (unknown_at index) reason fits = tt
+
 pub taken_refused : (force : Option Space) (call : Call) (reason : Reason) → Fits (taken_in force call) (answers.Refused reason) → IsOwedFirst force (taken_in force call)
 taken_refused None call reason fits = absurd fits
 taken_refused (Some space) (to_build targets origin) reason fits = found_refused (Some space) space origin (found_from space 0 targets) reason fits
+taken_refused (Some space) to_reload reason fits = absurd fits
+taken_refused (Some space) (to_clean targets) reason fits = cleaned_refused (Some space) space (found_from space 0 targets) reason fits
 
 -- the request comes to the head
 comes : (core : Core) (waiting : Waiting Queued) (o : Open) (rest : List Asked) (order : List Event) → o.first ≡ none → o.waiting ≡ asked_of waiting ∷ rest → RunsOn o → MidOf core o order
@@ -64,6 +71,40 @@ takes_plan old new waiting plan named of plans o rest order first waits runs mid
           (subst (λ (q : Plain). Mid q (Recalls new) (record o { first = owing waiting.id waiting.number v; waiting = rest }) (onto (said_out old) order)) (sym plain)
           (subst (λ R. Mid (plain_of old) R (record o { first = owing waiting.id waiting.number v; waiting = rest }) (onto (said_out old) order)) (recalls_same old new workspace kept)
           (comes old waiting o rest order first waits runs mid)));
+    }
+
+pub takes_reread : (old new : Core) (waiting : Waiting Queued) → IsId waiting.id → IsRereadOf old.workspace (taken_in old.workspace (queued_call waiting.call))
+    → Rereads old new waiting.id waiting.number → IsTakenUp old new waiting
+takes_reread old new waiting named of rereads o rest order first waits runs mid =
+    let workspace : new.workspace ≡ old.workspace = ap (λ (core : Core). core.workspace) rereads in
+    let plain : plain_of new ≡ plain_of old = ap plain_of rereads in
+    let kept : new.kept ≡ old.kept = ap (λ (core : Core). core.kept) rereads in
+    let out : new.out.items ≡ old.out.items = ap (λ (core : Core). core.out.items) rereads in
+    let v : Verdict = taken_in old.workspace (queued_call waiting.call) in
+    record {
+      first = owing waiting.id waiting.number v;
+      fits =
+          subst (λ (h : Option Head). HeadFits new h (after (onto (said_out new) order)) (owing waiting.id waiting.number v)) (sym (ap (λ (core : Core). core.head) rereads))
+          (named, record { space = of.space; in_force = workspace ∙ of.in_force; is = ap (owing waiting.id waiting.number) of.is });
+      mid =
+          subst (λ (items : List Outgoing). Mid (plain_of new) (Recalls new) (record o { first = owing waiting.id waiting.number v; waiting = rest }) (onto (map outgoing_said items) order)) (sym out)
+          (subst (λ (q : Plain). Mid q (Recalls new) (record o { first = owing waiting.id waiting.number v; waiting = rest }) (onto (said_out old) order)) (sym plain)
+          (subst (λ R. Mid (plain_of old) R (record o { first = owing waiting.id waiting.number v; waiting = rest }) (onto (said_out old) order)) (recalls_same old new workspace kept)
+          (comes old waiting o rest order first waits runs mid)));
+    }
+
+-- a cleaning is answered as it is taken up
+pub takes_cleaning : (old new : Core) (waiting : Waiting Queued) (targets : List ℕ) → IsCleaningOf old.workspace (taken_in old.workspace (queued_call waiting.call)) targets
+    → Cleans old new waiting.id targets → new.head ≡ None → IsTakenUp old new waiting
+takes_cleaning old new waiting targets of cleans gone o rest order first waits runs mid =
+    let v : Verdict = taken_in old.workspace (queued_call waiting.call) in
+    let up : Open = record o { first = owing waiting.id waiting.number v; waiting = rest } in
+    record {
+      first = none;
+      fits = subst (λ (h : Option Head). HeadFits new h (after (onto (said_out new) order)) none) (sym gone) refl;
+      mid = cleans up waiting.number of.space of.in_force (ap (owing waiting.id waiting.number) of.is)
+          (record { first = tt; waiting = All-tail IsUnmarked (asked_of waiting) rest (subst (All IsUnmarked) waits runs.waiting); last = runs.last })
+          order (comes old waiting o rest order first waits runs mid);
     }
 
 pub takes_refusal : (old new : Core) (waiting : Waiting Queued) (reason : Reason) → Fits (taken_in old.workspace (queued_call waiting.call)) (answers.Refused reason)

@@ -18,5 +18,5 @@ built_head id number b origin = record { id = id; number = number; cancelled = f
 abbrev pub HasWent : Core → Core → Id → ℕ → Option (List ℕ) → Went → List Said → Type 0
 HasWent old new id number origin (On b) told =
     (new ≡ record old { out = new.out; head = Some (built_head id number b origin) }) × (said_out new ≡ said_out old ++ told)
-HasWent old new id number origin (Ended failed) told =
-    (new ≡ record old { out = new.out }) × (said_out new ≡ said_out old ++ (told ++ build_said id origin failed ∷ []))
+HasWent old new id number origin (Ended failed remains) told =
+    (new ≡ record old { out = new.out; remains = new.remains }) × (said_out new ≡ said_out old ++ (told ++ build_said id origin failed ∷ []))

@@ -6,6 +6,7 @@ pub mod Marking
 pub mod Moving
 pub mod Opening
 pub mod Plans
+pub mod Reloading
 pub mod Settled
 pub mod Standing
 pub mod State

@@ -15,7 +15,7 @@ use Rattle.session_law.specs.Lawful.{EachAllowed}
 use Rattle.session_law.specs.Order.{Event, onto}
 use Rattle.session_law.specs.Past.{after}
 use Rattle.session_queue.specs.declared.waiting.Waiting.{Waiting}
-use Rattle.session_law.specs.Methods.{Verdict, opening, answering, closing, refusal}
+use Rattle.session_law.specs.Methods.{Verdict, opening, reloading, answering, closing, refusal}
 use Rattle.session_law.specs.Open.{First, Open, none, owing, working}
 use Rattle.session_law.specs.Requests.{Asked}
 use Rattle.session_law.specs.Verdicts.{IsBare}
@@ -42,9 +42,10 @@ IsAtOnce closing = Unit {0}
 IsAtOnce (refusal code text) = Unit {0}
 IsAtOnce v = ⊥
 
--- at the head it is answered: an initialize where no workspace is in force, and what is refused
+-- at the head it is answered: an initialize where no workspace is in force, a reload that is refused, and what is refused
 abbrev pub IsOwedFirst : Option Space → Verdict → Type 0
 IsOwedFirst force (opening root file) = force ≡ None
+IsOwedFirst force (reloading space file) = Unit {0}
 IsOwedFirst force (refusal code text) = Unit {0}
 IsOwedFirst force v = ⊥
 

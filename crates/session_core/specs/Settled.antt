@@ -32,6 +32,7 @@ use Rattle.worker_pool.specs.Plain.{plain_job}
 -- a request that is so far waits for what the tree holds at these paths
 abbrev pub PhaseWants : Phase → List (List ℕ) → Type 0
 PhaseWants (phases.Opening root) paths = paths ≡ workspace_path ∷ []
+PhaseWants phases.Rereading paths = paths ≡ workspace_path ∷ []
 PhaseWants (phases.Planned plan) paths = paths ≡ each_once bytes_eq (map (λ document. document.path) plan.documents)
 PhaseWants (phases.Built b origin) paths = ⊥
 
@@ -54,6 +55,7 @@ pub record Suits (rest : Rest) (got : Option Snapshot) : Type 0 where
 -- this holds of the head where it is a build that waits for its checks
 abbrev pub IfBuiltPhase : Phase → (Build → Type 0) → Type 0
 IfBuiltPhase (phases.Opening root) P = Unit {0}
+IfBuiltPhase phases.Rereading P = Unit {0}
 IfBuiltPhase (phases.Planned plan) P = Unit {0}
 IfBuiltPhase (phases.Built b origin) P = P b
 
@@ -87,6 +89,7 @@ AwaitsJob jobs given number b = (k : ℕ) × (number ≡ jobs + k) × (number < 
 
 abbrev pub AwaitsPhase : Phase → ℕ → ℕ → ℕ → Type 0
 AwaitsPhase (phases.Opening root) jobs given number = ⊥
+AwaitsPhase phases.Rereading jobs given number = ⊥
 AwaitsPhase (phases.Planned plan) jobs given number = ⊥
 AwaitsPhase (phases.Built b origin) jobs given number = AwaitsJob jobs given number b
 
@@ -110,6 +113,7 @@ HeadStays old new = (new ≡ old) ⊎ IsUnbuilt new
 -- where no workspace is in force, no request is at the head but an initialize
 abbrev pub IsOpeningPhase : Phase → Type 0
 IsOpeningPhase (phases.Opening root) = Unit {0}
+IsOpeningPhase phases.Rereading = ⊥
 IsOpeningPhase (phases.Planned plan) = ⊥
 IsOpeningPhase (phases.Built b origin) = ⊥
 
@@ -123,8 +127,14 @@ pub record IsPlannedIn (force : Option Space) (plan : Plan) : Type 0 where
   pub in_force : force ≡ Some space
   pub within : IsPlanIn space plan
 
+-- a reload that waits finds a workspace in force
+pub record IsInForce (force : Option Space) : Type 0 where
+  pub space : Space
+  pub is : force ≡ Some space
+
 abbrev pub PlanFits : Option Space → Phase → Type 0
 PlanFits force (phases.Opening root) = Unit {0}
+PlanFits force phases.Rereading = IsInForce force
 PlanFits force (phases.Planned plan) = IsPlannedIn force plan
 PlanFits force (phases.Built b origin) = Unit {0}
 
@@ -184,9 +194,19 @@ planned_rest rest id number plan =
       tree = Some (each_once bytes_eq (map (λ document. document.path) plan.documents));
     }
 
--- the request is at the head as a build that waits for its documents, or none is
-abbrev pub TakesUpRest : Rest → Rest → Id → ℕ → Type 0
-TakesUpRest old new id number = (new ≡ old) ⊎ ((plan : Plan) × IsPlannedIn old.workspace plan × (new ≡ planned_rest old id number plan))
+abbrev pub reread_rest : Rest → Id → ℕ → Rest
+reread_rest rest id number =
+    record rest {
+      head = Some (record { id = id; number = number; cancelled = false; phase = phases.Rereading });
+      tree = Some (workspace_path ∷ []);
+    }
+
+-- The request is at the head as a build that waits for its documents, or as a reload that waits for the workspace file, or none
+-- is.
+pub data TakesUpRest (old new : Rest) (id : Id) (number : ℕ) : Type 0 where
+  answered : new ≡ old → TakesUpRest old new id number
+  planned : (plan : Plan) → IsPlannedIn old.workspace plan → new ≡ planned_rest old id number plan → TakesUpRest old new id number
+  reread : IsInForce old.workspace → new ≡ reread_rest old id number → TakesUpRest old new id number
 
 -- ---- what is needed, and what that leaves
 
@@ -209,6 +229,7 @@ steps_limit = 2 ^ 64
 
 abbrev pub phase_left : Phase → ℕ
 phase_left (phases.Opening root) = steps_limit
+phase_left phases.Rereading = steps_limit
 phase_left (phases.Planned plan) = steps_limit
 phase_left (phases.Built b origin) = left_in b
 

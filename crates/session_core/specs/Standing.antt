@@ -18,7 +18,7 @@ use Rattle.session_core.specs.declared.session.Core.{Core}
 use Rattle.session_law.specs.Course.{Given}
 use Rattle.session_law.specs.History.{Told}
 use Rattle.session_law.specs.Lawful.{EachAllowed}
-use Rattle.session_law.specs.Methods.{asking, building}
+use Rattle.session_law.specs.Methods.{asking, building, rereading}
 use Rattle.session_law.specs.Open.{First, Mid, Open, none, owing, working}
 use Rattle.session_law.specs.Order.{Event, onto}
 use Rattle.session_law.specs.Past.{Now, after}
@@ -35,6 +35,12 @@ pub record IsPlanned (force : Option Space) (head : Head) (plan : Plan) (first :
   pub within : IsPlanIn space plan
   pub is : first ≡ owing head.id head.number (building (build_in space plan))
 
+-- a reload that waits for the workspace file is of the workspace in force
+pub record IsRereading (force : Option Space) (head : Head) (first : First) : Type 0 where
+  pub space : Space
+  pub in_force : force ≡ Some space
+  pub is : first ≡ owing head.id head.number (rereading space)
+
 -- a build that goes is on some course
 pub record IsWorking (core : Core) (head : Head) (b : Build) (origin : Option (List ℕ)) (now : Now) (first : First) : Type 0 where
   pub given : Given
@@ -46,6 +52,7 @@ pub record IsWorking (core : Core) (head : Head) (b : Build) (origin : Option (L
 
 abbrev pub PhaseFits : Core → Head → Phase → Now → First → Type 0
 PhaseFits core head (phases.Opening root) now first = (first ≡ owing head.id head.number (asking root)) × (core.workspace ≡ None)
+PhaseFits core head phases.Rereading now first = IsRereading core.workspace head first
 PhaseFits core head (phases.Planned plan) now first = IsPlanned core.workspace head plan first
 PhaseFits core head (phases.Built b origin) now first = IsWorking core head b origin now first
 
@@ -99,6 +106,7 @@ Loses old new = (order : List Event) → Whole old [] [] order → EachAllowed (
 -- a build at the head rests
 abbrev pub PhaseRests : Phase → Type 0
 PhaseRests (phases.Opening root) = Unit {0}
+PhaseRests phases.Rereading = Unit {0}
 PhaseRests (phases.Planned plan) = Unit {0}
 PhaseRests (phases.Built b origin) = Rests b × IfSome origin (IsTextWithin origin_limit)
 
@@ -113,6 +121,7 @@ IsQuiet core = core.out.items ≡ []
 -- the head waits for no tree
 abbrev pub IsUpPhase : Phase → Type 0
 IsUpPhase (phases.Opening root) = ⊥
+IsUpPhase phases.Rereading = ⊥
 IsUpPhase (phases.Planned plan) = ⊥
 IsUpPhase (phases.Built b origin) = Unit {0}
 

@@ -11,6 +11,7 @@ use Rattle.session_core.specs.declared.head.Head.{Head}
 use Rattle.session_core.specs.declared.head.Phase.TheVariants as phases
 use Rattle.session_core.specs.declared.session.Core.{Core}
 use Rattle.session_core.specs.declared.verdicts.Queued.{Queued}
+use Rattle.session_law.specs.Methods.{workspace_path}
 use Rattle.session_law.specs.Open.{First, Open, none}
 use Rattle.session_law.specs.Order.{Event, onto}
 use Rattle.session_law.specs.Past.{after}
@@ -24,6 +25,15 @@ Plans old new id number plan =
     ≡ record old {
       head = Some (record { id = id; number = number; cancelled = false; phase = phases.Planned plan });
       tree = Some (each_once bytes_eq (map (λ document. document.path) plan.documents));
+    }
+
+-- the reload is at the head, and waits for the workspace file
+abbrev pub Rereads : Core → Core → Id → ℕ → Type 0
+Rereads old new id number =
+    new
+    ≡ record old {
+      head = Some (record { id = id; number = number; cancelled = false; phase = phases.Rereading });
+      tree = Some (workspace_path ∷ []);
     }
 
 -- what is at the head then, and what is open

@@ -1,4 +1,4 @@
-ghost use Rattle.std.specs.Prelude.{◌≡◌, [], suc, None, Ok, Err, OnOk, OnErr};
+ghost use Rattle.std.specs.Prelude.{◌≡◌, suc, None, Ok, Err, OnOk, OnErr};
 ghost use Rattle.rpc_peer.specs.Said.{HasId, said};
 ghost use Rattle.session_core.specs.Acting.{Acts, ActsInVain, ActsOn, ActsOnInVain};
 ghost use Rattle.session_core.specs.Moving.{KeepsJobs, StaysBare};

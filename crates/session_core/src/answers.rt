@@ -1,17 +1,21 @@
-ghost use Rattle.std.specs.Prelude.{◌≡◌, IfOk};
+ghost use Rattle.std.specs.Prelude.{◌≡◌, true, IfOk};
 ghost use Rattle.std.specs.Option.{IfSome};
 ghost use Rattle.json_shape.specs.Shapes.{IsTextWithin};
 ghost use Rattle.bsp_records.specs.Limits.{origin_limit};
+ghost use Rattle.bsp_records.specs.Results.{clean_cache_result_data};
 ghost use Rattle.serde_json.specs.Data.{null};
 ghost use Rattle.serde_json.specs.View.{view};
 ghost use Rattle.rpc_peer.specs.Said.{said, result as answers, failure};
 ghost use Rattle.session_law.specs.Builds.{build_said, cancelled_said};
 ghost use Rattle.session_law.specs.IsFramed.{IsFramed};
 ghost use Rattle.session_law.specs.Methods.{capabilities, initialize_result, null_message};
-ghost use Rattle.session_core.specs.Judging.{answer_unread, reason_code, reason_text};
+ghost use Rattle.session_law.specs.CancelsForCause as spec;
+ghost use Rattle.session_core.specs.Judging.{HasQueuedTexts, answer_unread, queued_call, reason_code, reason_text};
 
-use crate::verdicts::Reason;
-use bsp_records::{CompileResult, StatusCode, write_compile_result};
+use crate::verdicts::{Queued, Reason};
+use bsp_records::{
+    CleanCacheResult, CompileResult, StatusCode, write_clean_cache_result, write_compile_result,
+};
 use ob_text::{NoMemory, Text};
 use rpc_peer::{ErrorObject, Id, Message};
 use serde_json::{Value, json};
@@ -72,6 +76,26 @@ pub fn cancelled(alloc: Global, id: Id, origin: &Option<Text>) -> Result<Message
     Ok(success(id, write_compile_result(alloc, &answer)?))
 }
 
+/// The response to a request that waited and is cancelled.
+#[tactic(auto, unfolding(session_law::specs::CancelsForCause::refused_cancelled))]
+pub fn call_cancelled(alloc: Global, id: Id, call: &Queued) -> Result<Message, NoMemory>
+    requires { HasQueuedTexts call.now }
+    ensures { IfOk result (λ m. said m ≡ spec.call_cancelled id (queued_call call.now)) }
+{
+    match call {
+        Queued::Build(params) => cancelled(alloc, id, &params.origin_id),
+        Queued::Reload | Queued::Clean(_) => refusal(alloc, id, &Reason::RequestCancelled),
+    }
+}
+
+/// The response to a cleaning.
+pub fn cleaned(alloc: Global, id: Id) -> Result<Message, NoMemory>
+    ensures { IfOk result (λ m. said m ≡ answers (Some id) (clean_cache_result_data (record { cleaned = true }))) }
+{
+    let answer = CleanCacheResult { cleaned: true };
+    Ok(success(id, write_clean_cache_result(alloc, &answer)?))
+}
+
 /// The response to what couldn't be read, with this code.
 pub fn unread_answer(alloc: Global, code: i32) -> Result<Message, NoMemory>
     ensures answer { IfOk result (λ m. said m ≡ answer_unread code) }
@@ -92,8 +116,8 @@ fn unread_message(code: i32) -> &'static [u8]
     }
 }
 
-/// The response to a shutdown that closes the session.
-pub fn closing(id: Id) -> Message
+/// The response without a result: to a shutdown that closes the session, and to a reload.
+pub fn null_answer(id: Id) -> Message
     ensures { said result ≡ answers (Some id) null }
 {
     success(id, Value::Null)

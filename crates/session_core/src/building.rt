@@ -1,4 +1,4 @@
-ghost use Rattle.std.specs.Prelude.{◌≡◌, ◌<◌, ◌^◌, ◌∷◌, ◌++◌, [], None, ℕ, OnOk, OnErr, IfOk, IfSome, map};
+ghost use Rattle.std.specs.Prelude.{◌≡◌, ◌<◌, None, ℕ, OnOk, OnErr, IfOk, IfSome, map};
 ghost use Rattle.std.specs.List.{All};
 ghost use Rattle.bsp_records.specs.Limits.{origin_limit};
 ghost use Rattle.json_shape.specs.Shapes.{IsTextWithin};
@@ -8,8 +8,7 @@ ghost use Rattle.session_build.specs.Outgoing.{outgoing_said};
 ghost use Rattle.session_core.specs.Building.{BeginsBy, GoesOnBy};
 ghost use Rattle.session_core.specs.Moving.{StaysBare};
 ghost use Rattle.session_core.specs.Handing.{HasWent};
-ghost use Rattle.session_core.specs.Settled.{IsPlannedIn, IsSound};
-ghost use Rattle.session_core.specs.State.{rest_of};
+ghost use Rattle.session_core.specs.Settled.{IsPlannedIn};
 ghost use Rattle.session_law.specs.Verdicts.{IsBare};
 ghost use Rattle.worker_pool.specs.Jobs.{plain_check};
 ghost use Rattle.worker_pool.specs.Outcomes.{IsCheckOf};
@@ -135,7 +134,8 @@ impl Core {
                 });
                 Ok(())
             }
-            Went::Ended { failed } => {
+            Went::Ended { failed, remains } => {
+                self.remains = Some(remains);
                 let mut told = told;
                 told.push_back(Outgoing::Message(compiled(self.alloc, id, &origin, failed)?))?;
                 self.tell(told)

@@ -1,4 +1,4 @@
-ghost use Rattle.std.specs.Prelude.{◌≡◌, ◌<◌, [], None, OnOk, OnErr};
+ghost use Rattle.std.specs.Prelude.{◌≡◌, ◌<◌, None, OnOk, OnErr};
 ghost use Rattle.session_core.specs.Acting.{Acts, ActsInVain};
 ghost use Rattle.session_core.specs.Moving.{StaysBare};
 ghost use Rattle.session_core.specs.Settled.{IsAsking, IsSettled, IsSound, NeedsNothing, StartsAt, Suits, head_left, left_to_do};
@@ -64,6 +64,7 @@ impl Core {
         } = head;
         match phase {
             Phase::Opening(root) => self.open(id, root, got),
+            Phase::Rereading => self.reload(id, got),
             Phase::Planned(planned) => match got {
                 Some(snapshot) => self.begin(id, number, planned, snapshot),
                 None => self.refuse_first(id, Reason::InternalError),

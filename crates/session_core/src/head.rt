@@ -23,6 +23,8 @@ pub struct Head {
 pub enum Phase {
     /// It is an initialize with this root, and waits for the workspace file.
     Opening(Root),
+    /// It is a reload, and waits for the workspace file.
+    Rereading,
     /// It is a build, and waits for its documents.
     Planned(Planned),
     /// It is a build that was sent with this `originId`, and waits for the outcomes of its checks.

@@ -1,4 +1,4 @@
-ghost use Rattle.std.specs.Prelude.{◌≡◌, ◌∷◌, [], codes, suc, None, Some, Ok, OnOk, OnErr, if◌then◌else◌, option_map};
+ghost use Rattle.std.specs.Prelude.{◌≡◌, codes, suc, None, Some, Ok, OnOk, OnErr, if◌then◌else◌, option_map};
 ghost use Rattle.json_shape.specs.Shapes.{at};
 ghost use Rattle.rpc_peer.specs.Meaning.{id_in};
 ghost use Rattle.rpc_peer.specs.Said.{notification};
@@ -10,7 +10,6 @@ ghost use Rattle.session_core.specs.Moving.{KeepsJobs, StaysBare};
 ghost use Rattle.session_core.specs.Settled.{HeadStays, IsAsking, IsSettled, NeedsNothing};
 ghost use Rattle.session_core.specs.Standing.{Carries, IsQuiet, IsUpHead, Loses};
 ghost use Rattle.session_core.specs.State.{rest_of};
-ghost use Rattle.session_law.specs.Methods.{is_named};
 ghost use Rattle.session_law.specs.Requests.{cancelled_id};
 
 use crate::session::Core;

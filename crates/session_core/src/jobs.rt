@@ -1,4 +1,4 @@
-ghost use Rattle.std.specs.Prelude.{◌≡◌, ◌≢◌, ◌≤◌, ◌<◌, ℕ, [], false, None, IfOk, IfNone, IfSome, OnOk, OnErr};
+ghost use Rattle.std.specs.Prelude.{◌≡◌, ◌≢◌, ◌≤◌, ◌<◌, ℕ, false, None, IfOk, IfNone, IfSome, OnOk, OnErr};
 ghost use Rattle.session_core.specs.Building.{TookBuild};
 ghost use Rattle.session_core.specs.Settled.{Awaits, IsAsking, IsBack, IsNeeded, IsSettled, NeedsNothing, left_to_do};
 ghost use Rattle.session_core.specs.Standing.{Carries, IsAlive, IsQuiet, IsUpHead, Loses};
@@ -97,14 +97,14 @@ impl Core {
         ensures ok { OnOk result (Carries self.old self.new) }
         ensures same { self.new ≡ record self.old { kept = self.new.kept } }
     {
-        let Some(workspace) = &self.workspace else {
+        // Where no workspace is in force no build was.
+        if self.workspace.is_none() {
             return Ok(());
-        };
+        }
         let Done::Checked(checked) = done else {
             return Ok(());
         };
-        self.kept
-            .outcome(workspace.get(), job.number, check_of(job.work), checked)
+        self.kept.outcome(job.number, check_of(job.work), checked)
     }
 
     // Takes out the build at the head, where the job with this number is that of one of its checks.
@@ -131,6 +131,7 @@ impl Core {
                 check,
             }),
             Phase::Opening(_) => unreachable!(),
+            Phase::Rereading => unreachable!(),
             Phase::Planned(_) => unreachable!(),
         }
     }

@@ -7,7 +7,7 @@ ghost use Rattle.json_shape.specs.Shapes.{IsTextWithin};
 ghost use Rattle.bsp_records.specs.Limits.{root_uri_limit};
 ghost use Rattle.bsp_records.specs.declared.requests.Method.TheVariants.{Initialize};
 ghost use Rattle.serde_json.specs.View.{view};
-ghost use Rattle.session_law.specs.Methods.{opening, verdict, verdict_for, is_initialize, served_in, read_in, first_asked, asked_of, rooted, sourced, found_from, found_build, target_path, taken_in};
+ghost use Rattle.session_law.specs.Methods.{opening, verdict, verdict_for, is_initialize, served_in, read_in, first_asked, asked_of, rooted, sourced, found_from, found_build, found_clean, target_path, taken_in};
 ghost use Rattle.session_core.specs.Judging.{Judges, Fits, IsFoundAs, IsSaid, IsSaidOwed, IsSaidUp, HasQueuedTexts, TakesUp, queued_call};
 ghost use Rattle.target_graph.specs.Address.{root_at};
 ghost use Rattle.target_graph.specs.Workspace.{named};
@@ -16,7 +16,8 @@ use crate::force::InForce;
 use crate::planned::Planned;
 use crate::verdicts::{Answer, Owed, Queued, Reason, TakenUp};
 use bsp_records::{
-    BadParams, BuildTargetIdentifier, CompileParams, Method, Request, SourcesParams, read_request,
+    BadParams, BuildTargetIdentifier, CleanCacheParams, CompileParams, Method, Request,
+    SourcesParams, read_request,
 };
 use itoa::Buffer;
 use ob_text::{Held, Items, NoMemory, Text};
@@ -74,9 +75,11 @@ fn is_initialize(method: Option<Method>) -> bool
         Some(
             Method::Shutdown
             | Method::BuildTargets
+            | Method::Reload
             | Method::Sources
             | Method::InverseSources
-            | Method::Compile,
+            | Method::Compile
+            | Method::CleanCache,
         )
         | None => false,
     }
@@ -117,9 +120,11 @@ fn judge_first(alloc: Global, request: Request) -> Result<Owed, NoMemory>
         Request::Initialize(params) => judge_root(alloc, &params.root_uri),
         Request::Shutdown
         | Request::BuildTargets
+        | Request::Reload
         | Request::Sources(_)
         | Request::InverseSources(_)
-        | Request::Compile(_) => Ok(refused(Reason::ServerNotInitialized)),
+        | Request::Compile(_)
+        | Request::CleanCache(_) => Ok(refused(Reason::ServerNotInitialized)),
     }
 }
 
@@ -183,12 +188,14 @@ fn judge_request(alloc: Global, request: Request, workspace: &Workspace) -> Resu
         Request::Initialize(_) => Ok(refused(Reason::InvalidRequest)),
         Request::Shutdown => Ok(Owed::Answer(Answer::Closing)),
         Request::BuildTargets => Ok(told(targets_answer(alloc, workspace)?)),
+        Request::Reload => Ok(Owed::Queued(Queued::Reload)),
         Request::Sources(params) => judge_sources(alloc, &params, workspace),
         Request::InverseSources(params) => {
             let uri = as_str(&params.text_document.uri);
             Ok(told(inverse_answer(alloc, workspace, uri)?))
         }
         Request::Compile(params) => Ok(Owed::Queued(Queued::Build(params))),
+        Request::CleanCache(params) => Ok(Owed::Queued(Queued::Clean(params))),
     }
 }
 
@@ -229,6 +236,8 @@ pub fn take_up(
     match workspace {
         Some(workspace) => match call {
             Queued::Build(params) => plan_build(alloc, params, workspace.get()),
+            Queued::Reload => Ok(TakenUp::Rereading),
+            Queued::Clean(params) => plan_clean(alloc, &params, workspace.get()),
         },
         None => unreachable!(),
     }
@@ -250,6 +259,22 @@ fn plan_build(
             let asked = Items::from_vec(asked);
             Ok(TakenUp::Building(Planned::new(asked, params.origin_id, documents)))
         }
+        Err(index) => Ok(TakenUp::Refused(unknown_target(alloc, index)?)),
+    }
+}
+
+fn plan_clean(
+    alloc: Global,
+    params: &CleanCacheParams,
+    workspace: &Workspace,
+) -> Result<TakenUp, NoMemory>
+    requires { All IsTarget params.now.targets }
+    ensures taken { IfOk result (TakesUp (Some workspace.now)
+        (found_clean workspace.now (found_from workspace.now 0 params.now.targets))) }
+    ensures short { IfOk result IsSaidUp }
+{
+    match find_targets(alloc, params.targets.as_slice(), workspace)? {
+        Ok(asked) => Ok(TakenUp::Cleaning(Items::from_vec(asked))),
         Err(index) => Ok(TakenUp::Refused(unknown_target(alloc, index)?)),
     }
 }

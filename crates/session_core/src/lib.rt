@@ -20,6 +20,7 @@ mod needs;
 mod opening;
 mod planned;
 mod reasons;
+mod reloading;
 mod serving;
 mod session;
 mod steps;

@@ -22,6 +22,7 @@ impl Reason {
             Reason::InvalidParams(_) => -32602,
             Reason::InternalError => -32603,
             Reason::WorkspaceRefused(_) => -32010,
+            Reason::RequestCancelled => -32800,
         }
     }
 
@@ -37,6 +38,7 @@ impl Reason {
             }
             Reason::InternalError => Text::new(alloc, b"sources unreadable"),
             Reason::WorkspaceRefused(fault) => refused_message(alloc, fault),
+            Reason::RequestCancelled => Text::new(alloc, b"request cancelled"),
         }
     }
 }

@@ -1,4 +1,4 @@
-ghost use Rattle.std.specs.Prelude.{◌≡◌, ◌≢◌, ◌∷◌, ℕ, [], false, suc, None, Ok, OnOk, OnErr, IsSome, IfSome, option_map};
+ghost use Rattle.std.specs.Prelude.{◌≡◌, ℕ, false, suc, None, Ok, OnOk, OnErr, IsSome, option_map};
 ghost use Rattle.rpc_peer.specs.Said.{IsId, request};
 ghost use Rattle.serde_json.specs.View.{view};
 ghost use Rattle.session_core.specs.Acting.{ActsOn, ActsOnInVain, LosesAs, ServesAs, WaitsAsLast, WaitsInVain, is_open_in};
@@ -6,7 +6,7 @@ ghost use Rattle.session_core.specs.Judging.{Fits, HasQueuedTexts, IsSaid, queue
 ghost use Rattle.session_core.specs.Moving.{BesideHead, IsAtOnce, KeepsJobs, LosesAll, QueueTexts, SettlesAll, StaysBare};
 ghost use Rattle.session_core.specs.Marking.{marked_all};
 ghost use Rattle.session_core.specs.Settled.{HasNone, HeadStays, IsAsking, IsSettled, NeedsNothing};
-ghost use Rattle.session_core.specs.Standing.{GoesOn, HeadGoesOn, HeadRests, IsQuiet, IsUpHead};
+ghost use Rattle.session_core.specs.Standing.{GoesOn, IsQuiet, IsUpHead};
 ghost use Rattle.session_core.specs.State.{rest_of};
 ghost use Rattle.session_law.specs.Methods.{Verdict, asking, closing, queued};
 ghost use Rattle.session_queue.specs.Waiting.{is_open};

@@ -1,6 +1,5 @@
 ghost use Rattle.std.specs.Prelude.{IfOk};
 
-use crate::answers::PARSE_ERROR;
 use crate::force::InForce;
 use crate::head::Head;
 use crate::needs::Need;
@@ -40,7 +39,7 @@ pub struct Core {
     pub(crate) tree: Option<Items<Path>>,
     /// A build was cancelled whose jobs may still wait somewhere.
     pub(crate) drains: bool,
-    /// What is left of a cancelled build. It is freed behind its answer.
+    /// What is left of a build that was answered. It is freed behind its answer.
     pub(crate) remains: Option<Remains>,
     /// The number of the first job of the build at the head, and of the next one to be given.
     pub(crate) jobs: u64,

@@ -20,7 +20,9 @@ ghost use Rattle.session_law.specs.Methods.{Verdict};
 ghost use Rattle.session_law.specs.Open.{Open, asking_for, none, owing, working};
 ghost use Rattle.session_law.specs.Requests.{Asked};
 
-use crate::answers::{cancelled, closing, initialize_value, refusal, success, unread_answer};
+use crate::answers::{
+    call_cancelled, cancelled, initialize_value, null_answer, refusal, success, unread_answer,
+};
 use crate::force::InForce;
 use crate::head::{Head, Phase};
 use crate::session::Core;
@@ -33,7 +35,7 @@ use std::collections::VecDeque;
 
 impl Core {
     /// Queues a message.
-    fn say(&mut self, message: Message) -> Result<(), NoMemory>
+    pub(crate) fn say(&mut self, message: Message) -> Result<(), NoMemory>
         requires { notice_in (said message) ≡ [] }
         ensures said { OnOk result (map outgoing_said self.new.out.items ≡ map outgoing_said self.old.out.items ++ said message ∷ []) }
         ensures bare { OnOk result (StaysBare self.old self.new) }
@@ -59,7 +61,7 @@ impl Core {
         match answer {
             Answer::Result(value) => self.say(success(id, value)),
             Answer::Closing => {
-                self.say(closing(id))?;
+                self.say(null_answer(id))?;
                 self.closed = true;
                 Ok(())
             }
@@ -138,7 +140,7 @@ impl Core {
         ensures err { OnErr result (self.new.out.items ≡ self.old.out.items) }
     {
         let Waiting { id, call, .. } = waiting;
-        let message = cancelled(self.alloc, id, call.origin())?;
+        let message = call_cancelled(self.alloc, id, &call)?;
         self.say(message)
     }
 
@@ -214,6 +216,7 @@ impl Core {
         match phase {
             Phase::Built(build, origin) => Some((id, build, origin)),
             Phase::Opening(_) => unreachable!(),
+            Phase::Rereading => unreachable!(),
             Phase::Planned(_) => unreachable!(),
         }
     }

@@ -1,14 +1,15 @@
 ghost use Rattle.std.specs.Prelude.{◌≡◌, ◌≤◌, None, IsSome, OnOk, OnErr};
 ghost use Rattle.rpc_peer.specs.Said.{IsId};
 ghost use Rattle.session_core.specs.Judging.{HasQueuedTexts};
-ghost use Rattle.session_core.specs.Moving.{BesideHead, KeepsJobs, StaysBare};
+ghost use Rattle.session_core.specs.Moving.{BesideHead, StaysBare};
 ghost use Rattle.session_core.specs.Settled.{HeadStays, IsAsking, IsSettled, IsSound, TakesUpRest, left_to_do};
 ghost use Rattle.session_core.specs.Standing.{Carries, HeadGoesOn, HeadRests, Loses};
 ghost use Rattle.session_core.specs.State.{rest_of};
-ghost use Rattle.session_core.specs.Taking.{IsTakenUp, Plans};
+ghost use Rattle.session_core.specs.Taking.{IsTakenUp, Plans, Rereads};
 
 use crate::head::{Head, Phase};
 use crate::judging::take_up;
+use crate::needs::workspace_paths;
 use crate::planned::Planned;
 use crate::session::Core;
 use crate::verdicts::{Queued, TakenUp};
@@ -31,6 +32,23 @@ impl Core {
             number,
             cancelled: false,
             phase: Phase::Planned(planned),
+        });
+        Ok(())
+    }
+
+    /// Keeps a reload at the head until it has the workspace file.
+    fn reread(&mut self, id: Id, number: u64) -> Result<(), NoMemory>
+        ensures ok { OnOk result (Rereads self.old self.new id number) }
+        ensures bare { OnOk result (StaysBare self.old self.new) }
+        ensures err { OnErr result (self.new ≡ self.old) }
+    {
+        let paths = workspace_paths(self.alloc)?;
+        self.tree = Some(paths);
+        self.head = Some(Head {
+            id,
+            number,
+            cancelled: false,
+            phase: Phase::Rereading,
         });
         Ok(())
     }
@@ -58,6 +76,8 @@ impl Core {
         } = waiting;
         match take_up(self.alloc, call, &self.workspace)? {
             TakenUp::Building(planned) => self.plan(id, number, planned),
+            TakenUp::Rereading => self.reread(id, number),
+            TakenUp::Cleaning(targets) => self.clean(id, targets.as_slice()),
             TakenUp::Refused(reason) => self.refuse_first(id, reason),
         }
     }

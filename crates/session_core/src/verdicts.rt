@@ -1,6 +1,6 @@
 use crate::planned::Planned;
-use bsp_records::CompileParams;
-use ob_text::Text;
+use bsp_records::{CleanCacheParams, CompileParams};
+use ob_text::{Items, Text};
 use serde_json::Value;
 use target_graph::{Root, Workspace, WorkspaceFault};
 
@@ -19,20 +19,8 @@ pub enum Owed {
 #[derive(Drop)]
 pub enum Queued {
     Build(CompileParams),
-}
-
-impl Queued {
-    ghost use Rattle.std.specs.Prelude.{◌≡◌};
-    ghost use Rattle.session_core.specs.Judging.{queued_origin};
-
-    /// The `originId` that was sent with it.
-    pub fn origin(&self) -> &Option<Text>
-        ensures { result.now ≡ queued_origin self.now }
-    {
-        match self {
-            Queued::Build(params) => &params.origin_id,
-        }
-    }
+    Reload,
+    Clean(CleanCacheParams),
 }
 
 /// What a request of the queue is owed once it is taken up.
@@ -40,6 +28,10 @@ impl Queued {
 pub enum TakenUp {
     /// It is a build, and waits for its documents.
     Building(Planned),
+    /// It is a reload, and waits for the workspace file.
+    Rereading,
+    /// It cleans what is kept of these targets, by their index in the workspace file.
+    Cleaning(Items<u32>),
     /// It names no target of the workspace at this path.
     Refused(Reason),
 }
@@ -87,4 +79,6 @@ pub enum Reason {
     InternalError,
     /// The workspace file has this fault.
     WorkspaceRefused(WorkspaceFault),
+    /// It was cancelled as it waited.
+    RequestCancelled,
 }

@@ -1,10 +1,10 @@
 -- Which documents a build checked, where it told its whole course: those whose checks started in it.
-use Rattle.std.proofs.Common.{◌≡◌, ◌≢◌, ◌⊎◌, inl, inr, ◌++◌, ◌<◌, ◌^◌, ℕ, suc, List, ◌∷◌, Bool, Contains, refl, sym, subst}
+use Rattle.std.proofs.Common.{◌≡◌, ◌≢◌, ◌⊎◌, inl, inr, ◌++◌, ◌<◌, ◌^◌, ℕ, suc, List, [], ◌∷◌, Bool, Contains, refl, sym, subst}
 use Rattle.std.proofs.lemmas.List.Elements.{Contains-append_cases, Contains-append_left, Contains-append_right}
 use Rattle.rpc_peer.specs.Said.{Said}
 use Rattle.session_law.proofs.ClosureLaws.{IdsDiffer, one_target}
 use Rattle.session_law.proofs.CourseLaws.{IsFinished, IsStarted, OnePair, checked_told, told_begun}
-use Rattle.session_law.proofs.ListLaws.{contains_first, contains_later, place_of}
+use Rattle.session_law.proofs.ListLaws.{contains_first, contains_later, contains_none, place_of}
 use Rattle.session_law.proofs.StartLaws.{NumbersFit, no_start, none_finishes}
 use Rattle.session_law.specs.Builds.{build_status}
 use Rattle.session_law.specs.Course.{Given, HasEnded, all_finish}
@@ -16,7 +16,7 @@ use Rattle.task_stream.specs.declared.shown.TableKey.{TableKey}
 -- ---- what was checked had started
 
 pub checked_started : (told : Told) (key : TableKey) → HasChecked told key → HasStarted told key
-checked_started told key checked = record { j = checked.j; i = checked.i; of_target = checked.of_target; started = checked.started }
+checked_started told key checked = record { j = checked.j; i = checked.i; of_target = checked.of_target; started = checked.started; uncleaned = checked.uncleaned }
 
 pub last_checked : {key : TableKey} {builds : List Told} {last : Told} → LastChecked key builds last → Contains builds last × HasChecked last key
 last_checked (newest {told = told} {earlier = earlier} checked) = (contains_first told earlier, checked)
@@ -45,7 +45,7 @@ last_one {key} (older {told = told} {last = one} {earlier = earlier} unchecked r
 -- ---- a whole course
 
 abbrev pub told_by : Given → List Said → Told
-told_by g messages = record { active = g.active; notices = messages }
+told_by g messages = record { active = g.active; notices = messages; cleaned = [] }
 
 -- A check that started has finished. What is told later changes nothing.
 pub checked_now : (g : Given) (messages own : List Said) (key : TableKey) (j i : ℕ) (failed : Bool) → IsTaskOf g.active key.target i
@@ -60,6 +60,7 @@ checked_now g messages own key j i failed task started =
       of_target = task;
       started = Contains-append_left messages (finish ∷ own) (check_starts g.active.number j i key.document) started;
       finished = Contains-append_right messages (finish ∷ own) finish (contains_first finish own);
+      uncleaned = contains_none key;
     }
 
 pub checked_still : (g : Given) (messages more : List Said) (key : TableKey) → HasChecked (told_by g messages) key → HasChecked (told_by g (messages ++ more)) key
@@ -70,6 +71,7 @@ checked_still g messages more key checked = record {
   of_target = checked.of_target;
   started = Contains-append_left messages more (check_starts g.active.number checked.j checked.i key.document) checked.started;
   finished = Contains-append_left messages more (check_finishes g.active.number checked.j checked.i (build_status checked.failed)) checked.finished;
+  uncleaned = contains_none key;
 }
 
 pub told_checked : (g : Given) (messages : List Said) (document : BuildDocument) (before : ℕ) → OnePair g.documents → Contains g.documents document
@@ -83,6 +85,7 @@ told_checked g messages document before one there told =
       of_target = subst (λ (d : BuildDocument). IsTaskOf g.active d.key.target told.begun.i) same told.begun.of_target;
       started = subst (λ (d : BuildDocument). Contains messages (check_starts g.active.number (suc before) told.begun.i d.key.document)) same told.begun.started;
       finished = told.finished;
+      uncleaned = contains_none document.key;
     }
 
 -- a document whose check started in the build was checked in it

@@ -13,6 +13,7 @@ pub mod DueLaws
 pub mod CancelLaws
 pub mod BareLaws
 pub mod RequestLaws
+pub mod ReloadLaws
 pub mod WriteLaws
 pub mod WrittenLaws
 pub mod OpenLaws

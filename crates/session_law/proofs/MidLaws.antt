@@ -4,33 +4,32 @@ use Rattle.std.specs.Prelude.{IfSome}
 use Rattle.std.specs.List.{list_any}
 use Rattle.bsp_records.specs.Results.{compile_result_data}
 use Rattle.bsp_records.specs.Table.{Table}
-use Rattle.bsp_records.specs.declared.identifiers.BuildTargetIdentifier.{BuildTargetIdentifier}
 use Rattle.bsp_records.specs.declared.results.StatusCode.TheVariants as statuses
 use Rattle.ob_text.specs.Held.{Entries}
-use Rattle.ob_text.specs.declared.held.Held.{Held}
 use Rattle.rpc_peer.specs.declared.message.Id.{Id}
 use Rattle.rpc_peer.specs.Said.{Said, result, failure}
 use Rattle.serde_json.specs.Data.{Data, null}
 use Rattle.target_graph.specs.Workspace.{Space}
-use Rattle.session_law.proofs.MoveLaws.{answered_null, answers_first, answers_last, answers_null, cancelled_waiting, cancels_waiting, failure_first, failure_last, granted_first, judged_first, last_granted, opened_judged, owes, refuses_first, refuses_last, result_first, result_last, same_builds_first, same_builds_last, same_builds_waiting, waiting_granted}
+use Rattle.session_law.proofs.MoveLaws.{answered_null, answers_first, answers_last, answers_null, builds_first, builds_last, builds_waiting, cancelled_waiting, cancels_waiting, failure_first, failure_last, granted_first, last_granted, nothing_granted, owes, refuses_first, refuses_last, result_first, result_last}
 use Rattle.session_law.proofs.OpenLaws.{GoOn, GoesOn, comes_first, comes_up, waits_behind}
 use Rattle.session_law.proofs.RequestLaws.{IsUnmarked}
 use Rattle.session_law.proofs.TakeLaws.{HasStarted, IsUp, MayAsk, WaitsBehind, all_marks, caught_up, handed_owing, handed_working, marked_head, may_hand, took_end}
 use Rattle.session_law.proofs.WorkLaws.{answered, build_answers, build_cancelled, build_cancels, build_tells, builds_answered, first_so, granted_answered}
-use Rattle.session_law.proofs.WriteLaws.{is_built}
+use Rattle.session_law.proofs.WriteLaws.{is_built, is_telling, untelling}
 use Rattle.session_law.proofs.WrittenLaws.{IsNotice, PublishesOf, noticed}
 use Rattle.session_law.specs.Builds.{Shows, build_answer, build_said, build_status, cancelled_said, has_error, table_behind}
 use Rattle.session_law.specs.Cancelling.{IsCancelledBy}
+use Rattle.session_law.specs.CancelsForCause.{call_cancelled, refused_cancelled}
 use Rattle.session_law.specs.Course.{AreGiven, Given, HasEnded, Tells}
 use Rattle.session_law.specs.History.{Told}
 use Rattle.session_law.specs.IsFramed.{IsFramed}
-use Rattle.session_law.specs.Lawful.{AreHeld, EachAllowed}
-use Rattle.session_law.specs.Methods.{Build, Call, Verdict, asking, opening, queued, building, built, answering, closing, refusal, due_in, null_message, to_build}
+use Rattle.session_law.specs.Lawful.{AreHeld, EachAllowed, WriteAllowed}
+use Rattle.session_law.specs.Methods.{Build, Call, Verdict, queued, building, due_in, null_message, to_build, to_reload, to_clean}
 use Rattle.session_law.specs.Open.{IsOpen, Mid, Open, Plain, none, owing, working, asking_for, plain_now}
 use Rattle.session_law.specs.Order.{Event, ends, hand, onto, take, write}
-use Rattle.session_law.specs.Past.{Now, after, by_event, closes, end_status, exit_status, force_by, nulls_for_end, space_in}
+use Rattle.session_law.specs.Past.{Now, after, by_event, cleaned_by, closes, end_status, exit_status, force_by, nulls_for_end}
 use Rattle.session_law.specs.RefusesExactly.{IsGranted, IsRefused}
-use Rattle.session_law.specs.Requests.{Asked, Wants, granted_by, handed_over, marked_where}
+use Rattle.session_law.specs.Requests.{Asked, Wants, handed_over, marked_where}
 use Rattle.session_law.specs.ShowsOldOrNew.{ShowsEither}
 use Rattle.session_law.specs.AnswersAtOnce.{IsCaughtUp}
 use Rattle.session_law.specs.declared.InputEnd.{InputEnd}
@@ -84,7 +83,7 @@ module _ (p : Plain) (R : List Told → Type 0) (o : Open) (order : List Event) 
 
   -- ---- the request that was taken last is answered
 
-  module _ (id : Id) (number : ℕ) (v : Verdict) (last : o.last ≡ asking_for id number v ∷ []) (go : GoOn o) (at_once : due_in p.force v ≡ v) (other : is_built v ≡ false) where
+  module _ (id : Id) (number : ℕ) (v : Verdict) (last : o.last ≡ asking_for id number v ∷ []) (go : GoOn o) (at_once : due_in p.force v ≡ v) (other : is_telling v ≡ false) where
     once_now : due_in now.force v ≡ v
     once_now = ap (λ f. due_in f v) force_is ∙ at_once
 
@@ -98,11 +97,12 @@ module _ (p : Plain) (R : List Told → Type 0) (o : Open) (order : List Event) 
           builds_are = mid.builds_are;
         }
 
-    -- a result that grants no workspace
+    -- a result that grants no workspace and cleans nothing
     pub mid_last_answered : (value : Data) → IsGranted (Some v) value → IsFramed (result (Some id) value) → (closed : Bool) → force_by (Some v) p.force ≡ p.force
+        → ((builds : List Told) → cleaned_by (Some v) builds ≡ builds)
         → (p.closed || closes (Some v)) ≡ closed → Mid (record p { closed = closed }) R (record o { last = [] }) (write (result (Some id) value) ∷ order)
-    mid_last_answered value granted framed closed force closes_so =
-        let whole = last_granted o now mid.open_is id number v last value in
+    mid_last_answered value granted framed closed force cleans closes_so =
+        let whole = last_granted o now mid.open_is id number v last value once_now in
         let same : force_by (Some v) now.force ≡ now.force = subst (λ f. force_by (Some v) f ≡ f) (sym force_is) force in
         record {
           each = (answers_last o now mid.open_is id number v last go once_now other value granted framed, mid.each);
@@ -111,9 +111,8 @@ module _ (p : Plain) (R : List Told → Type 0) (o : Open) (order : List Event) 
               ∙ ((λ i. record (plain_now now) { force = same i; closed = now.closed || closes (Some v) })
               ∙ ((λ i. record (mid.plain_is i) { closed = (mid.plain_is i).closed || closes (Some v) })
               ∙ (λ i. record p { closed = closes_so i })));
-          open_is = result_last o now mid.open_is id number v last value other same;
-          builds_are =
-              subst R (sym (same_builds_last o now mid.open_is id number v last value other)) mid.builds_are;
+          open_is = result_last o now mid.open_is id number v last value once_now other same (cleans now.builds);
+          builds_are = subst R (sym (builds_last o now mid.open_is id number v last value once_now other (cleans now.builds))) mid.builds_are;
         }
 
   -- ---- a code is answered with the id null
@@ -131,51 +130,69 @@ module _ (p : Plain) (R : List Told → Type 0) (o : Open) (order : List Event) 
   -- ---- the request at the head is answered
 
   module _ (id : Id) (number : ℕ) (v : Verdict) (first : o.first ≡ owing id number v) (go : GoOn o) where
-    pub mid_first_refused : (code : ℤ) (text : List ℕ) → is_built v ≡ false → IsRefused (Some v) code text → IsFramed (failure (Some id) code text)
+    pub mid_first_refused : (code : ℤ) (text : List ℕ) → IsRefused (Some v) code text → IsFramed (failure (Some id) code text)
         → Mid p R (record o { first = none }) (write (failure (Some id) code text) ∷ order)
-    mid_first_refused code text other refused framed =
+    mid_first_refused code text refused framed =
         record {
-          each = (refuses_first o now mid.open_is id number v first other go code text refused framed, mid.each);
+          each = (refuses_first o now mid.open_is id number v first go code text refused framed, mid.each);
           plain_is = (λ i. record (plain_now now) { closed = or_false now.closed i }) ∙ mid.plain_is;
           open_is = failure_first o now mid.open_is id number v first code text;
           builds_are = mid.builds_are;
         }
 
-    -- an initialize that is accepted opens the session
-    pub mid_opened : (value : Data) (root : List ℕ) (file : Held) → v ≡ opening root file → IsGranted (Some v) value → IsFramed (result (Some id) value)
-        → (Q : List Told → Type 0) → (R now.builds → Q now.builds)
-        → Mid (record p { force = Some (space_in root file) }) Q (record o { first = none }) (write (result (Some id) value) ∷ order)
-    mid_opened value root file opens granted framed Q remembers =
-        let owed = owes o now mid.open_is id number v first in
-        let judged : owed.judged ≡ opening root file = opened_judged now.force owed.judged root file (owed.stands ∙ opens) in
-        let whole : granted_by (result (Some id) value) now.requests ≡ Some (opening root file) = granted_first o now mid.open_is id number v first value ∙ ap Some judged in
-        let other : is_built v ≡ false = ap is_built opens in
+    -- what it is owed is granted, and takes effect
+    pub mid_granted : (value : Data) → WriteAllowed now (result (Some id) value) → is_built v ≡ false → closes (Some v) ≡ false
+        → (Q : List Told → Type 0) → (R now.builds → Q (cleaned_by (Some v) now.builds))
+        → Mid (record p { force = force_by (Some v) p.force }) Q (record o { first = none }) (write (result (Some id) value) ∷ order)
+    mid_granted value allowed other runs_on Q remembers =
+        let whole = granted_first o now mid.open_is id number v first value in
         record {
-          each = (answers_first o now mid.open_is id number v first other go value granted framed, mid.each);
+          each = (allowed, mid.each);
           plain_is =
               (λ i. record (plain_now now) { force = force_by (whole i) now.force; closed = now.closed || closes (whole i) })
-              ∙ ((λ i. record (plain_now now) { force = Some (space_in root file); closed = or_false now.closed i })
-              ∙ (λ i. record (mid.plain_is i) { force = Some (space_in root file) }));
+              ∙ ((λ i. record (plain_now now) { force = force_by (Some v) now.force; closed = now.closed || runs_on i })
+              ∙ ((λ i. record (plain_now now) { force = force_by (Some v) now.force; closed = or_false now.closed i })
+              ∙ (λ i. record (mid.plain_is i) { force = force_by (Some v) (mid.plain_is i).force })));
           open_is = result_first o now mid.open_is id number v first value;
-          builds_are = subst Q (sym (same_builds_first o now mid.open_is id number v first other value)) (remembers mid.builds_are);
+          builds_are = subst Q (sym (builds_first o now mid.open_is id number v first other value)) (remembers mid.builds_are);
         }
+
+    -- where it tells nothing before
+    pub mid_first_answered : (value : Data) → is_telling v ≡ false → IsGranted (Some v) value → IsFramed (result (Some id) value) → closes (Some v) ≡ false
+        → (Q : List Told → Type 0) → (R now.builds → Q (cleaned_by (Some v) now.builds))
+        → Mid (record p { force = force_by (Some v) p.force }) Q (record o { first = none }) (write (result (Some id) value) ∷ order)
+    mid_first_answered value other granted framed runs_on Q remembers =
+        mid_granted value (answers_first o now mid.open_is id number v first go value other granted framed) (untelling v other) runs_on Q remembers
 
   -- ---- a request that waits is cancelled
 
-  pub mid_cancelled : (ws rest : List Asked) (asked : Asked) → o.waiting ≡ ws ++ asked ∷ rest → (targets : List BuildTargetIdentifier) (origin : Option (List ℕ))
-      → asked.verdict ≡ queued (to_build targets origin) → GoesOn o.first → All IsUnmarked ws → asked.cancelled ≡ true → IsFramed (cancelled_said asked.id origin)
-      → Mid p R (record o { waiting = ws ++ rest }) (write (cancelled_said asked.id origin) ∷ order)
-  unfolding cancelled_said
-  mid_cancelled ws rest asked waits targets origin call goes before mark framed =
-      let whole = waiting_granted o now mid.open_is ws rest asked waits (compile_result_data (record { origin_id = origin; status_code = statuses.Cancelled })) in
-      let judged : granted_by (cancelled_said asked.id origin) now.requests ≡ Some (queued (to_build targets origin)) = whole ∙ ap Some call in
+  cancelled_plain : (ws rest : List Asked) (asked : Asked) → o.waiting ≡ ws ++ asked ∷ rest → (call : Call) → asked.verdict ≡ queued call
+      → plain_now (by_event (write (call_cancelled asked.id call)) now) ≡ plain_now now
+  unfolding cancelled_said refused_cancelled
+  cancelled_plain ws rest asked waits (to_build targets origin) call_is =
+      let nothing = nothing_granted o now mid.open_is ws rest asked waits targets origin call_is (compile_result_data (record { origin_id = origin; status_code = statuses.Cancelled })) in
+      (λ i. record (plain_now now) { force = nothing.force now.force i; closed = now.closed || nothing.closed i })
+      ∙ (λ i. record (plain_now now) { closed = or_false now.closed i })
+  cancelled_plain ws rest asked waits to_reload call_is = (λ i. record (plain_now now) { closed = or_false now.closed i })
+  cancelled_plain ws rest asked waits (to_clean targets) call_is = (λ i. record (plain_now now) { closed = or_false now.closed i })
+
+  cancelled_builds : (ws rest : List Asked) (asked : Asked) → o.waiting ≡ ws ++ asked ∷ rest → (call : Call) → asked.verdict ≡ queued call
+      → (by_event (write (call_cancelled asked.id call)) now).builds ≡ now.builds
+  unfolding cancelled_said refused_cancelled
+  cancelled_builds ws rest asked waits (to_build targets origin) call_is =
+      builds_waiting o now mid.open_is ws rest asked waits targets origin call_is (compile_result_data (record { origin_id = origin; status_code = statuses.Cancelled }))
+  cancelled_builds ws rest asked waits to_reload call_is = refl
+  cancelled_builds ws rest asked waits (to_clean targets) call_is = refl
+
+  pub mid_cancelled : (ws rest : List Asked) (asked : Asked) → o.waiting ≡ ws ++ asked ∷ rest → (call : Call) → asked.verdict ≡ queued call
+      → GoesOn o.first → All IsUnmarked ws → asked.cancelled ≡ true → IsFramed (call_cancelled asked.id call)
+      → Mid p R (record o { waiting = ws ++ rest }) (write (call_cancelled asked.id call) ∷ order)
+  mid_cancelled ws rest asked waits call call_is goes before mark framed =
       record {
-        each = (cancels_waiting o now mid.open_is ws rest asked waits targets origin call goes before mark framed, mid.each);
-        plain_is =
-            (λ i. record (plain_now now) { force = force_by (judged i) now.force; closed = now.closed || closes (judged i) })
-            ∙ ((λ i. record (plain_now now) { closed = or_false now.closed i }) ∙ mid.plain_is);
-        open_is = cancelled_waiting o now mid.open_is ws rest asked waits targets origin call;
-        builds_are = subst R (sym (same_builds_waiting o now mid.open_is ws rest asked waits (compile_result_data (record { origin_id = origin; status_code = statuses.Cancelled })) (ap is_built call))) mid.builds_are;
+        each = (cancels_waiting o now mid.open_is ws rest asked waits goes before mark call call_is framed, mid.each);
+        plain_is = cancelled_plain ws rest asked waits call call_is ∙ mid.plain_is;
+        open_is = cancelled_waiting o now mid.open_is ws rest asked waits call call_is;
+        builds_are = subst R (sym (cancelled_builds ws rest asked waits call call_is)) mid.builds_are;
       }
 
   -- ---- the active build
@@ -201,7 +218,7 @@ module _ (p : Plain) (R : List Told → Type 0) (o : Open) (order : List Event) 
   -- it is answered once it told all
   pub mid_answers : (g : Given) → o.first ≡ working g false → GoOn o → (ended : HasEnded g now.notices) → All (Shows p.table) ended.findings
       → IsFramed (build_answer g.active.id g.active.build ended.findings)
-      → (Q : List Told → Type 0) → (R now.builds → Q (record { active = g.active; notices = now.notices } ∷ now.builds))
+      → (Q : List Told → Type 0) → (R now.builds → Q (record { active = g.active; notices = now.notices; cleaned = [] } ∷ now.builds))
       → Mid p Q (record o { first = none }) (write (build_answer g.active.id g.active.build ended.findings) ∷ order)
   unfolding build_said
   mid_answers g first go ended shows framed Q remembers =
@@ -229,7 +246,7 @@ module _ (p : Plain) (R : List Told → Type 0) (o : Open) (order : List Event) 
   -- and answered
   pub mid_answers_cancelled : (g : Given) → o.first ≡ working g true → (told cancels : List Said) → now.notices ≡ told ++ cancels → IsCancelledBy g told cancels
       → ShowsEither g.active g.table p.table → IsFramed (cancelled_said g.active.id g.active.build.origin)
-      → (Q : List Told → Type 0) → (R now.builds → Q (record { active = g.active; notices = now.notices } ∷ now.builds))
+      → (Q : List Told → Type 0) → (R now.builds → Q (record { active = g.active; notices = now.notices; cleaned = [] } ∷ now.builds))
       → Mid p Q (record o { first = none }) (write (cancelled_said g.active.id g.active.build.origin) ∷ order)
   unfolding cancelled_said
   mid_answers_cancelled g first told cancels since by shows framed Q remembers =

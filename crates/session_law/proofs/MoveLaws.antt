@@ -2,7 +2,6 @@
 use Rattle.std.proofs.Common.{◌≡◌, ◌++◌, ◌||◌, ℕ, ℤ, List, [], ◌∷◌, Bool, true, false, All, Option, Some, None, refl, ap, sym, ◌∙◌, subst, append-nil, append_assoc, true≢false}
 use Rattle.std.specs.Prelude.{drop, if◌then◌else◌}
 use Rattle.std.proofs.lemmas.List.Elements.{All-append, All-cons, All-head, All-nil, All-tail}
-use Rattle.ob_text.specs.declared.held.Held.{Held}
 use Rattle.rpc_peer.specs.declared.message.Id.{Id}
 use Rattle.rpc_peer.specs.Said.{Said, result, failure}
 use Rattle.bsp_records.specs.declared.identifiers.BuildTargetIdentifier.{BuildTargetIdentifier}
@@ -12,17 +11,18 @@ use Rattle.serde_json.specs.Data.{Data}
 use Rattle.target_graph.specs.Workspace.{Space}
 use Rattle.session_law.proofs.OpenLaws.{GoOn, GoesOn, apart_without, marked_waiting, others_before, unmarked}
 use Rattle.session_law.proofs.RequestLaws.{HasOther, IsUnmarked}
-use Rattle.session_law.proofs.WriteLaws.{allowed_cancel, allowed_null, allowed_refusal, allowed_result, builds_other, is_built, left_open, other_active, owed_open, owed_anywhere, owed_first}
+use Rattle.session_law.proofs.WriteLaws.{allowed_cancel, allowed_null, allowed_refused_cancel, allowed_refusal, allowed_result, builds_other, is_built, is_telling, left_open, other_active, owed_anywhere, owed_first, owed_up, untelling}
 use Rattle.session_law.specs.Builds.{cancelled_said}
-use Rattle.session_law.specs.CancelsForCause.{CancelsAs}
+use Rattle.session_law.specs.CancelsForCause.{CancelsAs, call_cancelled, refused_cancelled}
+use Rattle.session_law.specs.History.{Told}
 use Rattle.session_law.specs.IsFramed.{IsFramed}
 use Rattle.session_law.specs.Lawful.{WriteAllowed}
-use Rattle.session_law.specs.Methods.{Call, Found, Verdict, all_found, unknown_at, asking, opening, queued, building, built, answering, closing, refusal, due_in, found_build, found_from, null_message, taken_up, to_build}
+use Rattle.session_law.specs.Methods.{Call, Found, Verdict, all_found, unknown_at, asking, opening, queued, building, built, rereading, reloading, cleaning, answering, closing, refusal, due_in, found_build, found_from, null_message, request_cancelled, to_build, to_reload, to_clean}
 use Rattle.session_law.specs.Open.{AreApart, First, IsFirst, IsOpen, IsWaiting, Open, Owes, none, owing, working, asking_for}
 use Rattle.session_law.specs.Order.{write}
-use Rattle.session_law.specs.Past.{Now, by_event, builds_by, force_by}
+use Rattle.session_law.specs.Past.{Now, by_event, builds_by, cleaned_by, closes, force_by, granted_in}
 use Rattle.session_law.specs.RefusesExactly.{IsGranted, IsRefused}
-use Rattle.session_law.specs.Requests.{Asked, active_of, first_up, granted_by, owed_to}
+use Rattle.session_law.specs.Requests.{Asked, active_of, first_up, owed_to}
 
 waits_without : (ws rest : List Asked) (asked : Asked) → All IsWaiting (ws ++ asked ∷ rest) → All IsWaiting (ws ++ rest)
 waits_without [] rest asked all = All-tail IsWaiting asked rest all
@@ -72,13 +72,13 @@ module _ (o : Open) (now : Now) (is : IsOpen o now) (id : Id) (number : ℕ) (v 
         nulls_are = nulls ∙ is.nulls_are;
       }
 
-  pub last_granted : (value : Data) → granted_by (result (Some id) value) now.requests ≡ Some v
-  last_granted value = owed_open now before [] one whole others
-
   pub same_builds_last : (value : Data) → is_built v ≡ false → builds_by (result (Some id) value) (active_of now.requests) now.notices now.builds ≡ now.builds
   same_builds_last value other = builds_other id value now (active_of now.requests) now.notices now.builds (other_active now before [] one whole others other)
 
-  module _ (go : GoOn o) (at_once : due_in now.force v ≡ v) (other : is_built v ≡ false) where
+  pub last_granted : (value : Data) → due_in now.force v ≡ v → granted_in (result (Some id) value) now ≡ Some v
+  last_granted value at_once = ap (λ requests. owed_to id (first_up now.force requests)) whole ∙ owed_anywhere now.force before [] one others at_once
+
+  module _ (go : GoOn o) (at_once : due_in now.force v ≡ v) (other : is_telling v ≡ false) where
     stands : owed_to id (first_up now.force now.requests) ≡ Some v
     stands = ap (λ requests. owed_to id (first_up now.force requests)) whole ∙ owed_anywhere now.force before [] one others at_once
 
@@ -88,14 +88,21 @@ module _ (o : Open) (now : Now) (is : IsOpen o now) (id : Id) (number : ℕ) (v 
     pub refuses_last : (code : ℤ) (text : List ℕ) → IsRefused (Some v) code text → IsFramed (failure (Some id) code text) → WriteAllowed now (failure (Some id) code text)
     refuses_last code text refused framed = allowed_refusal now before [] one whole others v (unmarked o now is go) stands code text refused framed
 
-  -- a result that grants no workspace keeps what the head goes by
-  pub result_last : (value : Data) → is_built v ≡ false → force_by (Some v) now.force ≡ now.force
+  -- nothing is cleaned by it
+  pub builds_last : (value : Data) → due_in now.force v ≡ v → is_telling v ≡ false → cleaned_by (Some v) now.builds ≡ now.builds
+      → (by_event (write (result (Some id) value)) now).builds ≡ now.builds
+  builds_last value at_once other cleans =
+      ap (λ bs. cleaned_by (granted_in (result (Some id) value) now) bs) (same_builds_last value (untelling v other))
+      ∙ (ap (λ w. cleaned_by w now.builds) (last_granted value at_once) ∙ cleans)
+
+  -- a result that grants no workspace and cleans nothing keeps what the head goes by
+  pub result_last : (value : Data) → due_in now.force v ≡ v → is_telling v ≡ false → force_by (Some v) now.force ≡ now.force → cleaned_by (Some v) now.builds ≡ now.builds
       → IsOpen (record o { last = [] }) (by_event (write (result (Some id) value)) now)
-  result_last value other same =
+  result_last value at_once other same cleans =
       closed_last (by_event (write (result (Some id) value)) now)
       (record {
-        force = ap (λ v'. force_by v' now.force) (last_granted value) ∙ same;
-        builds = same_builds_last value other;
+        force = ap (λ v'. force_by v' now.force) (last_granted value at_once) ∙ same;
+        builds = builds_last value at_once other cleans;
         table = refl;
       })
       (left_open now before [] one whole others) refl
@@ -125,22 +132,12 @@ answered_null o now is code later nulls =
 
 -- ---- the request at the head is answered
 
--- being taken up leads to a build or to a refusal
-abbrev is_up : Verdict → Bool
-is_up (building build) = true
-is_up (refusal code text) = true
-is_up v = false
-
-found_up : (space : Space) (origin : Option (List ℕ)) (found : Found) → is_up (found_build space origin found) ≡ true
-found_up space origin (all_found targets) = refl
-found_up space origin (unknown_at index) = refl
-
-call_up : (call : Call) (space : Space) → is_up (taken_up call space) ≡ true
-call_up (to_build targets origin) space = found_up space origin (found_from space 0 targets)
-
--- what is a build behind the tree's answer was one before it was judged at the head
+-- what is a build at the head was one before it was judged there
 unbuilt_judged : (force : Option Space) (judged v : Verdict) → due_in force judged ≡ v → is_built v ≡ false → is_built judged ≡ false
 unbuilt_judged force (built build entries) v is other = ap is_built is ∙ other
+unbuilt_judged force (rereading space) v is other = refl
+unbuilt_judged force (reloading space file) v is other = refl
+unbuilt_judged force (cleaning space targets) v is other = refl
 unbuilt_judged force (queued call) v is other = refl
 unbuilt_judged force (asking root) v is other = refl
 unbuilt_judged force (opening root file) v is other = refl
@@ -149,17 +146,19 @@ unbuilt_judged force (answering space question) v is other = refl
 unbuilt_judged force closing v is other = refl
 unbuilt_judged force (refusal code text) v is other = refl
 
--- what is an opening at the head was one as the tree answered
-pub opened_judged : (force : Option Space) (judged : Verdict) (root : List ℕ) (file : Held) → due_in force judged ≡ opening root file → judged ≡ opening root file
-opened_judged force (opening root' file') root file is = is
-opened_judged None (queued call) root file is = is
-opened_judged (Some space) (queued call) root file is = absurd (true≢false (sym (call_up call space) ∙ ap is_up is))
-opened_judged force (asking root') root file is = is
-opened_judged force (building build) root file is = is
-opened_judged force (built build entries) root file is = is
-opened_judged force (answering space question) root file is = is
-opened_judged force closing root file is = is
-opened_judged force (refusal code text) root file is = is
+-- and so it is with what tells something
+untelling_judged : (force : Option Space) (judged v : Verdict) → due_in force judged ≡ v → is_telling v ≡ false → is_telling judged ≡ false
+untelling_judged force (built build entries) v is other = ap is_telling is ∙ other
+untelling_judged force (reloading space file) v is other = ap is_telling is ∙ other
+untelling_judged force (queued call) v is other = refl
+untelling_judged force (asking root) v is other = refl
+untelling_judged force (opening root file) v is other = refl
+untelling_judged force (building build) v is other = refl
+untelling_judged force (rereading space) v is other = refl
+untelling_judged force (cleaning space targets) v is other = refl
+untelling_judged force (answering space question) v is other = refl
+untelling_judged force closing v is other = refl
+untelling_judged force (refusal code text) v is other = refl
 
 module _ (o : Open) (now : Now) (is : IsOpen o now) (id : Id) (number : ℕ) (v : Verdict) (first : o.first ≡ owing id number v) where
   pub owes : Owes now.force id number v is.head
@@ -171,7 +170,7 @@ module _ (o : Open) (now : Now) (is : IsOpen o now) (id : Id) (number : ℕ) (v 
   abbrev own : Asked
   own = asking_for id number owes.judged
 
-  at_head : now.requests ≡ own ∷ behind
+  pub at_head : now.requests ≡ own ∷ behind
   at_head = is.requests_are ∙ ap (λ h. h ++ behind) owes.are
 
   none_before : All (HasOther id) []
@@ -189,15 +188,11 @@ module _ (o : Open) (now : Now) (is : IsOpen o now) (id : Id) (number : ℕ) (v 
         nulls_are = nulls ∙ is.nulls_are;
       }
 
-  stands_first : owed_to id (first_up now.force now.requests) ≡ Some v
+  pub stands_first : owed_to id (first_up now.force now.requests) ≡ Some v
   stands_first = ap (λ requests. owed_to id (first_up now.force requests)) at_head ∙ (owed_first now.force behind own ∙ ap Some owes.stands)
 
-  -- what it was owed as it was taken, or as the tree answered
-  pub granted_first : (value : Data) → granted_by (result (Some id) value) now.requests ≡ Some owes.judged
-  granted_first value = owed_open now [] behind own at_head none_before
-
-  pub judged_first : due_in now.force owes.judged ≡ v
-  judged_first = owes.stands
+  pub granted_first : (value : Data) → granted_in (result (Some id) value) now ≡ Some v
+  granted_first value = stands_first
 
   module _ (other : is_built v ≡ false) where
     pub same_builds_first : (value : Data) → builds_by (result (Some id) value) (active_of now.requests) now.notices now.builds ≡ now.builds
@@ -205,15 +200,20 @@ module _ (o : Open) (now : Now) (is : IsOpen o now) (id : Id) (number : ℕ) (v 
         builds_other id value now (active_of now.requests) now.notices now.builds
         (other_active now [] behind own at_head none_before (unbuilt_judged now.force owes.judged v owes.stands other))
 
-    module _ (go : GoOn o) where
-      pub answers_first : (value : Data) → IsGranted (Some v) value → IsFramed (result (Some id) value) → WriteAllowed now (result (Some id) value)
-      answers_first value granted framed =
-          allowed_result now [] behind own at_head none_before v (unmarked o now is go) stands_first value granted
-          (unbuilt_judged now.force owes.judged v owes.stands other) framed
+    pub builds_first : (value : Data) → (by_event (write (result (Some id) value)) now).builds ≡ cleaned_by (Some v) now.builds
+    builds_first value =
+        ap (λ bs. cleaned_by (granted_in (result (Some id) value) now) bs) (same_builds_first value)
+        ∙ ap (λ w. cleaned_by w now.builds) (granted_first value)
 
-      pub refuses_first : (code : ℤ) (text : List ℕ) → IsRefused (Some v) code text → IsFramed (failure (Some id) code text) → WriteAllowed now (failure (Some id) code text)
-      refuses_first code text refused framed =
-          allowed_refusal now [] behind own at_head none_before v (unmarked o now is go) stands_first code text refused framed
+  module _ (go : GoOn o) where
+    pub answers_first : (value : Data) → is_telling v ≡ false → IsGranted (Some v) value → IsFramed (result (Some id) value) → WriteAllowed now (result (Some id) value)
+    answers_first value other granted framed =
+        allowed_result now [] behind own at_head none_before v (unmarked o now is go) stands_first value granted
+        (untelling_judged now.force owes.judged v owes.stands other) framed
+
+    pub refuses_first : (code : ℤ) (text : List ℕ) → IsRefused (Some v) code text → IsFramed (failure (Some id) code text) → WriteAllowed now (failure (Some id) code text)
+    refuses_first code text refused framed =
+        allowed_refusal now [] behind own at_head none_before v (unmarked o now is go) stands_first code text refused framed
 
   pub result_first : (value : Data) → IsOpen (record o { first = none }) (by_event (write (result (Some id) value)) now)
   result_first value = closed_first (by_event (write (result (Some id) value)) now) (left_open now [] behind own at_head none_before) refl
@@ -222,6 +222,20 @@ module _ (o : Open) (now : Now) (is : IsOpen o now) (id : Id) (number : ℕ) (v 
   failure_first code text = closed_first (by_event (write (failure (Some id) code text)) now) (left_open now [] behind own at_head none_before) refl
 
 -- ---- a request that waits is cancelled
+
+-- a result to a request that was owed this changes neither the workspace in force nor which builds count, and closes nothing
+pub record ChangesNothing (granted : Option Verdict) : Type 0 where
+  pub force : (f : Option Space) → force_by granted f ≡ f
+  pub closed : closes granted ≡ false
+  pub builds : (bs : List Told) → cleaned_by granted bs ≡ bs
+
+nothing_found : (space : Space) (origin : Option (List ℕ)) (found : Found) → ChangesNothing (Some (found_build space origin found))
+nothing_found space origin (all_found targets) = record { force = λ f. refl; closed = refl; builds = λ bs. refl }
+nothing_found space origin (unknown_at index) = record { force = λ f. refl; closed = refl; builds = λ bs. refl }
+
+nothing_up : (force : Option Space) (targets : List BuildTargetIdentifier) (origin : Option (List ℕ)) → ChangesNothing (Some (due_in force (queued (to_build targets origin))))
+nothing_up None targets origin = record { force = λ f. refl; closed = refl; builds = λ bs. refl }
+nothing_up (Some space) targets origin = nothing_found space origin (found_from space 0 targets)
 
 module _ (o : Open) (now : Now) (is : IsOpen o now) (ws rest : List Asked) (asked : Asked) (waits : o.waiting ≡ ws ++ asked ∷ rest) where
   abbrev ahead : List Asked
@@ -239,40 +253,64 @@ module _ (o : Open) (now : Now) (is : IsOpen o now) (ws rest : List Asked) (aske
   ahead_others : All (HasOther asked.id) ahead
   ahead_others = others_before ahead (rest ++ o.last) asked apart_all
 
-  pub waiting_granted : (value : Data) → granted_by (result (Some asked.id) value) now.requests ≡ Some asked.verdict
-  waiting_granted value = owed_open now ahead (rest ++ o.last) asked all_are ahead_others
+  -- a build that waits is owed nothing that a result would change the session by
+  pub nothing_granted : (targets : List BuildTargetIdentifier) (origin : Option (List ℕ)) → asked.verdict ≡ queued (to_build targets origin) → (value : Data)
+      → ChangesNothing (granted_in (result (Some asked.id) value) now)
+  nothing_granted targets origin call value =
+      subst (λ requests. ChangesNothing (owed_to asked.id (first_up now.force requests))) (sym all_are)
+      (owed_up now.force ahead (rest ++ o.last) asked ahead_others ChangesNothing
+      (subst (λ v. ChangesNothing (Some (due_in now.force v))) (sym call) (nothing_up now.force targets origin))
+      (subst (λ v. ChangesNothing (Some v)) (sym call) (record { force = λ f. refl; closed = refl; builds = λ bs. refl })))
 
   pub same_builds_waiting : (value : Data) → is_built asked.verdict ≡ false → builds_by (result (Some asked.id) value) (active_of now.requests) now.notices now.builds ≡ now.builds
   same_builds_waiting value other =
       builds_other asked.id value now (active_of now.requests) now.notices now.builds (other_active now ahead (rest ++ o.last) asked all_are ahead_others other)
 
-  module _ (targets : List BuildTargetIdentifier) (origin : Option (List ℕ)) (call_is : asked.verdict ≡ queued (to_build targets origin)) where
-    pub cancels_waiting : GoesOn o.first → All IsUnmarked ws → asked.cancelled ≡ true → IsFramed (cancelled_said asked.id origin) → WriteAllowed now (cancelled_said asked.id origin)
-    unfolding cancelled_said
-    cancels_waiting goes before mark framed =
+  -- an answer to it that is a result changes nothing else
+  pub builds_waiting : (targets : List BuildTargetIdentifier) (origin : Option (List ℕ)) → asked.verdict ≡ queued (to_build targets origin) → (value : Data)
+      → (by_event (write (result (Some asked.id) value)) now).builds ≡ now.builds
+  builds_waiting targets origin call value =
+      ap (λ bs. cleaned_by (granted_in (result (Some asked.id) value) now) bs) (same_builds_waiting value (ap is_built call))
+      ∙ (nothing_granted targets origin call value).builds now.builds
+
+  -- what is open once it was answered, where nothing changed that the head goes by
+  closed_waiting : (new : Now) → Keeps now new → new.requests ≡ ahead ++ (rest ++ o.last) → new.nulls ≡ now.nulls → IsOpen (record o { waiting = ws ++ rest }) new
+  closed_waiting new keeps requests nulls =
+      record {
+        head = is.head;
+        first_is = same_first o.first now new is.head keeps is.first_is;
+        requests_are = requests ∙ (append_assoc is.head ws (rest ++ o.last) ∙ ap (λ w. is.head ++ w) (sym (append_assoc ws rest o.last)));
+        waits = waits_without ws rest asked (subst (All IsWaiting) waits is.waits);
+        apart = subst AreApart (sym requests) (apart_without ahead (rest ++ o.last) asked apart_all);
+        nulls_are = nulls ∙ is.nulls_are;
+      }
+
+  module _ (goes : GoesOn o.first) (before : All IsUnmarked ws) (mark : asked.cancelled ≡ true) where
+    pub cancels_waiting : (call : Call) → asked.verdict ≡ queued call → IsFramed (call_cancelled asked.id call) → WriteAllowed now (call_cancelled asked.id call)
+    unfolding cancelled_said refused_cancelled
+    cancels_waiting (to_build targets origin) call_is framed =
         allowed_cancel now ahead (rest ++ o.last) asked all_are ahead_others (to_build targets origin) (cancelled_said asked.id origin) call_is
         (marked_waiting o now is ws rest asked goes waits before mark)
         (subst (λ v. CancelsAs asked v now (cancelled_said asked.id origin)) (sym call_is) refl) _ refl framed
+    cancels_waiting to_reload call_is framed =
+        allowed_refused_cancel now ahead (rest ++ o.last) asked all_are ahead_others to_reload request_cancelled _ call_is
+        (marked_waiting o now is ws rest asked goes waits before mark)
+        (subst (λ v. CancelsAs asked v now (refused_cancelled asked.id)) (sym call_is) refl) framed
+    cancels_waiting (to_clean targets) call_is framed =
+        allowed_refused_cancel now ahead (rest ++ o.last) asked all_are ahead_others (to_clean targets) request_cancelled _ call_is
+        (marked_waiting o now is ws rest asked goes waits before mark)
+        (subst (λ v. CancelsAs asked v now (refused_cancelled asked.id)) (sym call_is) refl) framed
 
-    pub cancelled_waiting : IsOpen (record o { waiting = ws ++ rest }) (by_event (write (cancelled_said asked.id origin)) now)
-    unfolding cancelled_said
-    cancelled_waiting =
-        let new = by_event (write (cancelled_said asked.id origin)) now in
-        let requests : new.requests ≡ ahead ++ (rest ++ o.last) = left_open now ahead (rest ++ o.last) asked all_are ahead_others in
-        let unbuilt : is_built asked.verdict ≡ false = ap is_built call_is in
-        let granted : granted_by (cancelled_said asked.id origin) now.requests ≡ Some asked.verdict = owed_open now ahead (rest ++ o.last) asked all_are ahead_others in
-        record {
-          head = is.head;
-          first_is =
-              same_first o.first now new is.head
-              (record {
-                force = ap (λ v. force_by v now.force) (granted ∙ ap Some call_is);
-                builds = builds_other asked.id (compile_result_data (record { origin_id = origin; status_code = statuses.Cancelled })) now (active_of now.requests) now.notices now.builds (other_active now ahead (rest ++ o.last) asked all_are ahead_others unbuilt);
-                table = refl;
-              })
-              is.first_is;
-          requests_are = requests ∙ (append_assoc is.head ws (rest ++ o.last) ∙ ap (λ w. is.head ++ w) (sym (append_assoc ws rest o.last)));
-          waits = waits_without ws rest asked (subst (All IsWaiting) waits is.waits);
-          apart = subst AreApart (sym requests) (apart_without ahead (rest ++ o.last) asked apart_all);
-          nulls_are = is.nulls_are;
-        }
+  pub cancelled_waiting : (call : Call) → asked.verdict ≡ queued call → IsOpen (record o { waiting = ws ++ rest }) (by_event (write (call_cancelled asked.id call)) now)
+  unfolding cancelled_said refused_cancelled
+  cancelled_waiting (to_build targets origin) call_is =
+      let value = compile_result_data (record { origin_id = origin; status_code = statuses.Cancelled }) in
+      closed_waiting (by_event (write (cancelled_said asked.id origin)) now)
+      (record { force = (nothing_granted targets origin call_is value).force now.force; builds = builds_waiting targets origin call_is value; table = refl })
+      (left_open now ahead (rest ++ o.last) asked all_are ahead_others) refl
+  cancelled_waiting to_reload call_is =
+      closed_waiting (by_event (write (refused_cancelled asked.id)) now) (record { force = refl; builds = refl; table = refl })
+      (left_open now ahead (rest ++ o.last) asked all_are ahead_others) refl
+  cancelled_waiting (to_clean targets) call_is =
+      closed_waiting (by_event (write (refused_cancelled asked.id)) now) (record { force = refl; builds = refl; table = refl })
+      (left_open now ahead (rest ++ o.last) asked all_are ahead_others) refl

@@ -25,7 +25,7 @@ notice_short method params =
 
 -- the most bytes of its params
 abbrev pub params_limit : ℕ
-params_limit = 1000000
+params_limit = 16000000
 
 pub framed_notice : (method : List ℕ) (params : Data) → is_notice method ≡ true → all_ascii method ≡ true → length method ≤ 100
     → has_float params ≡ false → length (compact_text params) ≤ params_limit → IsFramed (notification method (Some params))

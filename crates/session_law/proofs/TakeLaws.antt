@@ -18,7 +18,7 @@ use Rattle.session_law.proofs.WriteLaws.{is_built}
 use Rattle.session_law.specs.AnswersAtOnce.{HeadIsUp, IsCaughtUp, MayWait, Waits}
 use Rattle.session_law.specs.Course.{AreGiven, Given}
 use Rattle.session_law.specs.Lawful.{AreHeld, HandAllowed}
-use Rattle.session_law.specs.Methods.{Build, Verdict, asking, opening, queued, building, built, answering, closing, refusal, due_in, verdict}
+use Rattle.session_law.specs.Methods.{Build, Verdict, asking, opening, queued, building, built, rereading, reloading, cleaning, answering, closing, refusal, due_in, verdict}
 use Rattle.session_law.specs.Open.{AreApart, First, IsFirst, IsLater, IsOpen, IsWaiting, Open, Owes, none, owing, working, asking_for, working_on}
 use Rattle.session_law.specs.Order.{take, ends, hand}
 use Rattle.session_law.specs.Past.{Now, by_event, nulls_for, nulls_for_end, standing}
@@ -266,6 +266,7 @@ caught_up o now is up go last nulls started behind =
 abbrev pub MayAsk : Verdict → Type 0
 MayAsk (asking root) = Unit {0}
 MayAsk (building build) = Unit {0}
+MayAsk (rereading space) = Unit {0}
 MayAsk v = ⊥
 
 -- once it was handed its files, it is judged by them
@@ -274,6 +275,10 @@ stays force None (asking root) asks = refl
 stays force (Some entries) (asking root) asks = refl
 stays force None (building build) asks = refl
 stays force (Some entries) (building build) asks = refl
+stays force None (rereading space) asks = refl
+stays force (Some entries) (rereading space) asks = refl
+stays force handed (reloading space file) asks = absurd asks
+stays force handed (cleaning space targets) asks = absurd asks
 stays force handed (opening root file) asks = absurd asks
 stays force handed (queued call) asks = absurd asks
 stays force handed (built build entries) asks = absurd asks

@@ -23,9 +23,9 @@ use Rattle.session_law.specs.Lawful.{EachAllowed, WriteAllowed}
 use Rattle.session_law.specs.Methods.{built}
 use Rattle.session_law.specs.Open.{AreApart, IsFirst, IsOpen, Open, none, working, working_on}
 use Rattle.session_law.specs.Order.{Event, onto, write}
-use Rattle.session_law.specs.Past.{Now, after, builds_by, by_event, standing}
+use Rattle.session_law.specs.Past.{Now, after, builds_by, by_event, cleaned_by, granted_in, standing}
 use Rattle.session_law.specs.RefusesExactly.{IsGranted}
-use Rattle.session_law.specs.Requests.{Active, Asked, active_of, first_up, granted_by, is_open, owed_to}
+use Rattle.session_law.specs.Requests.{Active, Asked, active_of, first_up, is_open, owed_to}
 use Rattle.session_law.specs.ShowsCleanBuild.{ShowsAll}
 use Rattle.session_law.specs.ShowsOldOrNew.{ShowsEither}
 use Rattle.session_law.specs.TasksInOrder.{HasToldAll, IsGivenBy}
@@ -88,19 +88,20 @@ module _ (o : Open) (now : Now) (is : IsOpen o now) (g : Given) (marked : Bool) 
         nulls_are = is.nulls_are;
       }
 
-  pub granted_answered : (value : Data) → granted_by (result (Some g.active.id) value) now.requests ≡ Some (built g.active.build g.active.entries)
-  granted_answered value = owed_open now [] behind one at_head none_before
+  pub granted_answered : (value : Data) → granted_in (result (Some g.active.id) value) now ≡ Some (built g.active.build g.active.entries)
+  granted_answered value = ap (λ requests. owed_to g.active.id (first_up now.force requests)) at_head ∙ owed_first now.force behind one
 
-  pub builds_answered : (value : Data) → builds_by (result (Some g.active.id) value) (active_of now.requests) now.notices now.builds
-      ≡ record { active = g.active; notices = now.notices } ∷ now.builds
+  pub builds_answered : (value : Data) → (by_event (write (result (Some g.active.id) value)) now).builds
+      ≡ record { active = g.active; notices = now.notices; cleaned = [] } ∷ now.builds
   builds_answered value =
-      ap (λ a. builds_by (result (Some g.active.id) value) a now.notices now.builds) works.is_active
-      ∙ ap (λ same. if same then record { active = g.active; notices = now.notices } ∷ now.builds else now.builds) (same_id_refl g.active.id)
+      let m = result (Some g.active.id) value in
+      let own : Told = record { active = g.active; notices = now.notices; cleaned = [] } in
+      ap (λ w. cleaned_by w (builds_by m (active_of now.requests) now.notices now.builds)) (granted_answered value)
+      ∙ (ap (λ a. builds_by m a now.notices now.builds) works.is_active
+      ∙ ap (λ same. if same then own ∷ now.builds else now.builds) (same_id_refl g.active.id))
 
   granted : (value : Data) → IsGranted (owed_to g.active.id (standing now)) value
-  granted value =
-      subst (λ v. IsGranted v value)
-      (sym (ap (λ requests. owed_to g.active.id (first_up now.force requests)) at_head ∙ owed_first now.force behind one)) tt
+  granted value = subst (λ v. IsGranted v value) (sym (granted_answered value)) tt
 
 -- ---- the build goes on
 

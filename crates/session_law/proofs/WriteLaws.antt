@@ -14,10 +14,11 @@ use Rattle.session_law.specs.History.{Told}
 use Rattle.session_law.specs.If.{If}
 use Rattle.session_law.specs.IsFramed.{IsFramed}
 use Rattle.session_law.specs.Lawful.{GoesOn, GoesOnOrCancels, WriteAllowed}
-use Rattle.session_law.specs.Methods.{Build, Verdict, asking, opening, queued, building, built, answering, closing, refusal, Call, to_build, due_in, null_message}
+use Rattle.session_law.specs.Methods.{Build, Verdict, asking, opening, queued, building, built, rereading, reloading, cleaning, answering, closing, refusal, Call, to_build, due_in, null_message}
 use Rattle.session_law.specs.Past.{Now, builds_by, standing}
-use Rattle.session_law.specs.PublishesInBuildsOnly.{PublishesFor}
+use Rattle.session_law.specs.PublishesInBuildsOnly.{TellsAs, TellsBy}
 use Rattle.session_law.specs.RefusesExactly.{IsGranted, IsRefused}
+use Rattle.session_law.specs.Reloading.{Reloads}
 use Rattle.session_law.specs.Requests.{Active, Asked, active_as, active_of, first_marked, first_up, is_open, owed_to, without}
 use Rattle.session_law.specs.ShowsCleanBuild.{PublishesNext, ShowsAll, ShowsFor}
 use Rattle.session_law.specs.ShowsOldOrNew.{ShowsEither, ShowsEitherFor}
@@ -26,7 +27,7 @@ use Rattle.session_law.specs.TasksInOrder.{HasToldAll, TellsFor, TellsNext}
 
 -- ---- claims behind a test
 
-if_so : (b : Bool) (A : Type 0) → A → If b A
+pub if_so : (b : Bool) (A : Type 0) → A → If b A
 if_so true A a = a
 if_so false A a = tt
 
@@ -38,11 +39,30 @@ if_not : (b : Bool) (A : Type 0) → b ≡ false → If b A
 if_not true A other = absurd (true≢false other)
 if_not false A other = tt
 
--- ---- the active build
+-- ---- the request at the head
 
 abbrev pub is_built : Verdict → Bool
 is_built (built build entries) = true
 is_built v = false
+
+-- a request that is owed this may tell something before it is answered
+abbrev pub is_telling : Verdict → Bool
+is_telling (built build entries) = true
+is_telling (reloading space file) = true
+is_telling v = false
+
+pub untelling : (v : Verdict) → is_telling v ≡ false → is_built v ≡ false
+untelling (built build entries) other = other
+untelling (queued call) other = refl
+untelling (asking root) other = refl
+untelling (opening root file) other = refl
+untelling (building build) other = refl
+untelling (rereading space) other = refl
+untelling (reloading space file) other = refl
+untelling (cleaning space targets) other = refl
+untelling (answering space question) other = refl
+untelling closing other = refl
+untelling (refusal code text) other = refl
 
 -- no build is active that has this id
 abbrev pub IsOtherThan : Id → Option Active → Type 0
@@ -51,6 +71,9 @@ IsOtherThan id (Some active) = same_id id active.id ≡ false
 
 pub unbuilt : (asked : Asked) (v : Verdict) → is_built v ≡ false → active_as asked v ≡ None
 unbuilt asked (built build entries) other = absurd (true≢false other)
+unbuilt asked (rereading space) other = refl
+unbuilt asked (reloading space file) other = refl
+unbuilt asked (cleaning space targets) other = refl
 unbuilt asked (queued call) other = refl
 unbuilt asked (asking root) other = refl
 unbuilt asked (opening root file) other = refl
@@ -62,6 +85,9 @@ unbuilt asked (refusal code text) other = refl
 first_other : (id : Id) (first : Asked) (v : Verdict) → HasOther id first → IsOtherThan id (active_as first v)
 first_other id first (built build entries) other = other
 first_other id first (queued call) other = tt
+first_other id first (rereading space) other = tt
+first_other id first (reloading space file) other = tt
+first_other id first (cleaning space targets) other = tt
 first_other id first (asking root) other = tt
 first_other id first (opening root file) other = tt
 first_other id first (building build) other = tt
@@ -97,12 +123,78 @@ module _ (id : Id) (value : Data) (now : Now) where
 
   pub builds_other : (active : Option Active) (notices : List Said) (builds : List Told) → IsOtherThan id active → builds_by m active notices builds ≡ builds
   builds_other None notices builds other = refl
-  builds_other (Some active) notices builds other = ap (λ same. if same then record { active = active; notices = notices } ∷ builds else builds) other
+  builds_other (Some active) notices builds other = ap (λ same. if same then record { active = active; notices = notices; cleaned = [] } ∷ builds else builds) other
 
--- a response publishes nothing
-silent : (active : Option Active) (m : Said) → is_publication m ≡ false → PublishesFor active m
-silent None m is = is
-silent (Some active) m is = tt
+-- ---- what is told
+
+-- a response to a request that waits for nothing tells nothing, whatever is at the head
+quiet_as : (id : Id) (v : Verdict) (now : Now) (asked : Id) (value : Data) → same_id asked id ≡ false → TellsAs id v now (result (Some asked) value)
+quiet_as id (built build entries) now asked value other = tt
+quiet_as id (reloading space file) now asked value other = if_not (same_id asked id) (Reloads space file now.table_at_hand now.notices) other
+quiet_as id (queued call) now asked value other = refl
+quiet_as id (asking root) now asked value other = refl
+quiet_as id (opening root file) now asked value other = refl
+quiet_as id (building build) now asked value other = refl
+quiet_as id (rereading space) now asked value other = refl
+quiet_as id (cleaning space targets) now asked value other = refl
+quiet_as id (answering space question) now asked value other = refl
+quiet_as id closing now asked value other = refl
+quiet_as id (refusal code text) now asked value other = refl
+
+-- so does one to a request that tells nothing itself
+quiet_own : (id : Id) (v : Verdict) (now : Now) (value : Data) → is_telling v ≡ false → TellsAs id v now (result (Some id) value)
+quiet_own id (built build entries) now value other = tt
+quiet_own id (reloading space file) now value other = absurd (true≢false other)
+quiet_own id (queued call) now value other = refl
+quiet_own id (asking root) now value other = refl
+quiet_own id (opening root file) now value other = refl
+quiet_own id (building build) now value other = refl
+quiet_own id (rereading space) now value other = refl
+quiet_own id (cleaning space targets) now value other = refl
+quiet_own id (answering space question) now value other = refl
+quiet_own id closing now value other = refl
+quiet_own id (refusal code text) now value other = refl
+
+pub quiet_result : (before rest : List Asked) (asked : Asked) (now : Now) (value : Data) → All (HasOther asked.id) before → is_telling asked.verdict ≡ false
+    → TellsBy (before ++ asked ∷ rest) now (result (Some asked.id) value)
+quiet_result [] rest asked now value others other = quiet_own asked.id asked.verdict now value other
+quiet_result (first ∷ before) rest asked now value others other = quiet_as first.id first.verdict now asked.id value (All-head (HasOther asked.id) first before others)
+
+-- a refusal tells nothing
+failed_as : (id : Id) (v : Verdict) (now : Now) (refused : Option Id) (code : ℤ) (text : List ℕ) → TellsAs id v now (failure refused code text)
+failed_as id (built build entries) now refused code text = tt
+failed_as id (reloading space file) now refused code text = tt
+failed_as id (queued call) now refused code text = refl
+failed_as id (asking root) now refused code text = refl
+failed_as id (opening root file) now refused code text = refl
+failed_as id (building build) now refused code text = refl
+failed_as id (rereading space) now refused code text = refl
+failed_as id (cleaning space targets) now refused code text = refl
+failed_as id (answering space question) now refused code text = refl
+failed_as id closing now refused code text = refl
+failed_as id (refusal owed message) now refused code text = refl
+
+quiet_failure : (requests : List Asked) (now : Now) (refused : Option Id) (code : ℤ) (text : List ℕ) → TellsBy requests now (failure refused code text)
+quiet_failure [] now refused code text = refl
+quiet_failure (asked ∷ others) now refused code text = failed_as asked.id asked.verdict now refused code text
+
+-- what a build tells isn't told by this
+built_as : (asked : Asked) (v : Verdict) (active : Active) (now : Now) (m : Said) → active_as asked v ≡ Some active → TellsAs asked.id v now m
+built_as asked (built build entries) active now m is = tt
+built_as asked (queued call) active now m is = absurd (cc)
+built_as asked (asking root) active now m is = absurd (cc)
+built_as asked (opening root file) active now m is = absurd (cc)
+built_as asked (building build) active now m is = absurd (cc)
+built_as asked (rereading space) active now m is = absurd (cc)
+built_as asked (reloading space file) active now m is = absurd (cc)
+built_as asked (cleaning space targets) active now m is = absurd (cc)
+built_as asked (answering space question) active now m is = absurd (cc)
+built_as asked closing active now m is = absurd (cc)
+built_as asked (refusal code text) active now m is = absurd (cc)
+
+by_build : (requests : List Asked) (active : Active) (now : Now) (m : Said) → active_of requests ≡ Some active → TellsBy requests now m
+by_build [] active now m is = absurd (cc)
+by_build (asked ∷ others) active now m is = built_as asked asked.verdict active now m is
 
 -- ---- what the request is owed that a response answers
 
@@ -116,6 +208,16 @@ owed_anywhere force [] rest asked others same = owed_first force rest asked ∙ 
 owed_anywhere force (first ∷ before) rest asked others same =
     ap (λ b. if b then Some (due_in force first.verdict) else owed_to asked.id (before ++ asked ∷ rest)) (All-head (HasOther asked.id) first before others)
     ∙ owed_behind asked.id before rest asked (All-tail (HasOther asked.id) first before others) (same_id_refl asked.id)
+
+-- one that may be judged at the head: it is owed this or that
+pub owed_up : (force : Option Space) (before rest : List Asked) (asked : Asked) → All (HasOther asked.id) before → (P : Option Verdict → Type 0)
+    → P (Some (due_in force asked.verdict)) → P (Some asked.verdict) → P (owed_to asked.id (first_up force (before ++ asked ∷ rest)))
+owed_up force [] rest asked others P up waits = subst P (sym (owed_first force rest asked)) up
+owed_up force (first ∷ before) rest asked others P up waits =
+    subst P
+    (sym (ap (λ b. if b then Some (due_in force first.verdict) else owed_to asked.id (before ++ asked ∷ rest)) (All-head (HasOther asked.id) first before others)
+    ∙ owed_behind asked.id before rest asked (All-tail (HasOther asked.id) first before others) (same_id_refl asked.id)))
+    waits
 
 -- ---- responses to one of the requests that are there
 
@@ -138,15 +240,15 @@ module _ (now : Now) (before rest : List Asked) (asked : Asked) (are : now.reque
 
   -- no request is to be cancelled
   module _ (v : Verdict) (unmarked : first_marked now.requests ≡ None) (stands : owed_to asked.id (standing now) ≡ Some v) where
-    pub allowed_result : (value : Data) → IsGranted (Some v) value → is_built asked.verdict ≡ false → IsFramed (result (Some asked.id) value)
+    pub allowed_result : (value : Data) → IsGranted (Some v) value → is_telling asked.verdict ≡ false → IsFramed (result (Some asked.id) value)
         → WriteAllowed now (result (Some asked.id) value)
     allowed_result value granted other framed =
         let m = result (Some asked.id) value in
-        let apart = other_active other in
+        let apart = other_active (untelling asked.verdict other) in
         record {
           framed = framed;
           once = is_open_one;
-          in_builds = silent (active_of now.requests) m refl;
+          in_builds = subst (λ requests. TellsBy requests now m) (sym are) (quiet_result before rest asked now value others other);
           by_marks = subst (λ o. GoesOnOrCancels o now m) (sym unmarked) (record {
             exact = subst (λ o. IsGranted o value) (sym stands) granted;
             in_order = answers_other asked.id value now (active_of now.requests) apart;
@@ -162,7 +264,7 @@ module _ (now : Now) (before rest : List Asked) (asked : Asked) (are : now.reque
         record {
           framed = framed;
           once = is_open_one;
-          in_builds = silent (active_of now.requests) m refl;
+          in_builds = quiet_failure now.requests now (Some asked.id) code text;
           by_marks = subst (λ o. GoesOnOrCancels o now m) (sym unmarked) (record {
             exact = subst (λ o. IsRefused o code text) (sym stands) refused;
             in_order = tt;
@@ -175,18 +277,31 @@ module _ (now : Now) (before rest : List Asked) (asked : Asked) (are : now.reque
   pub allowed_cancel : (call : Call) (m : Said) → asked.verdict ≡ queued call → first_marked now.requests ≡ Some asked → CancelsForCause asked now m
       → (value : Data) → m ≡ result (Some asked.id) value → IsFramed m → WriteAllowed now m
   allowed_cancel call m waits marked owes value is framed =
+      let untold : is_telling asked.verdict ≡ false = ap is_telling waits in
       let apart = other_active (ap is_built waits) in
       let response = result (Some asked.id) value in
       subst (WriteAllowed now) (sym is)
       (record {
         framed = subst IsFramed is framed;
         once = is_open_one;
-        in_builds = silent (active_of now.requests) response refl;
+        in_builds = subst (λ requests. TellsBy requests now response) (sym are) (quiet_result before rest asked now value others untold);
         by_marks = subst (λ o. GoesOnOrCancels o now response) (sym marked) (record {
           for_cause = subst (CancelsForCause asked now) is owes;
           old_or_new = either_other asked.id value now (active_of now.requests) apart;
         });
       })
+
+  -- the same where it is refused as cancelled
+  pub allowed_refused_cancel : (call : Call) (code : ℤ) (text : List ℕ) → asked.verdict ≡ queued call → first_marked now.requests ≡ Some asked
+      → CancelsForCause asked now (failure (Some asked.id) code text) → IsFramed (failure (Some asked.id) code text) → WriteAllowed now (failure (Some asked.id) code text)
+  allowed_refused_cancel call code text waits marked owes framed =
+      let m = failure (Some asked.id) code text in
+      record {
+        framed = framed;
+        once = is_open_one;
+        in_builds = quiet_failure now.requests now (Some asked.id) code text;
+        by_marks = subst (λ o. GoesOnOrCancels o now m) (sym marked) (record { for_cause = owes; old_or_new = tt });
+      }
 
 -- ---- the response with the id null
 
@@ -197,7 +312,7 @@ allowed_null now code others are unmarked framed =
     record {
       framed = framed;
       once = record { first = code; others = others; are = are };
-      in_builds = silent (active_of now.requests) m refl;
+      in_builds = quiet_failure now.requests now None code (null_message code);
       by_marks = subst (λ o. GoesOnOrCancels o now m) (sym unmarked) (record {
         exact = rw are (refl, refl);
         in_order = tt;
@@ -219,7 +334,7 @@ module _ (now : Now) (active : Active) (is_active : active_of now.requests ≡ S
         record {
           framed = framed;
           once = tt;
-          in_builds = subst (λ a. PublishesFor a m) (sym is_active) tt;
+          in_builds = by_build now.requests active now m is_active;
           by_marks = subst (λ o. GoesOnOrCancels o now m) (sym unmarked) (record {
             exact = tt;
             in_order = tt;
@@ -235,7 +350,7 @@ module _ (now : Now) (active : Active) (is_active : active_of now.requests ≡ S
         record {
           framed = framed;
           once = there;
-          in_builds = silent (active_of now.requests) m refl;
+          in_builds = by_build now.requests active now m is_active;
           by_marks = subst (λ o. GoesOnOrCancels o now m) (sym unmarked) (record {
             exact = granted;
             in_order = subst (AnswersFor m) (sym is_active) (if_so (same_id active.id active.id) (AnswersBuild active value) answers);
@@ -253,7 +368,7 @@ module _ (now : Now) (active : Active) (is_active : active_of now.requests ≡ S
         record {
           framed = framed;
           once = tt;
-          in_builds = subst (λ a. PublishesFor a m) (sym is_active) tt;
+          in_builds = by_build now.requests active now m is_active;
           by_marks = subst (λ o. GoesOnOrCancels o now m) (sym marked) (record { for_cause = cancels; old_or_new = tt });
         }
 
@@ -264,7 +379,7 @@ module _ (now : Now) (active : Active) (is_active : active_of now.requests ≡ S
         record {
           framed = framed;
           once = there;
-          in_builds = silent (active_of now.requests) m refl;
+          in_builds = by_build now.requests active now m is_active;
           by_marks = subst (λ o. GoesOnOrCancels o now m) (sym marked) (record {
             for_cause = cancels;
             old_or_new = subst (λ a. ShowsEitherFor m a now) (sym is_active) (if_so (same_id active.id active.id) (ShowsEither active now.table_at_hand now.table) shows);

@@ -10,7 +10,7 @@ use Rattle.session_law.specs.CancelsForCause.{CancelsActive, CancelsAs, CancelsN
 use Rattle.session_law.specs.Course.{AreGiven, Given, Tells}
 use Rattle.session_law.specs.IsFramed.{IsFramed}
 use Rattle.session_law.specs.Lawful.{EachAllowed}
-use Rattle.session_law.specs.Methods.{Verdict, asking, opening, queued, building, built, answering, closing, refusal}
+use Rattle.session_law.specs.Methods.{Verdict, asking, opening, queued, building, built, rereading, reloading, cleaning, answering, closing, refusal}
 use Rattle.session_law.specs.Order.{Event, onto, write}
 use Rattle.session_law.specs.Past.{Now, after, by_event, notice_in}
 use Rattle.session_law.specs.Requests.{Active, Asked, active_as, active_of, first_marked}
@@ -22,7 +22,7 @@ abbrev pub IsNotice : Said → Type 0
 IsNotice m = notice_in m ≡ m ∷ []
 
 -- no notification is a response or a request
-no_response : {A : Type 0} (m : Said) → [] ≡ m ∷ [] → A
+pub no_response : {A : Type 0} (m : Said) → [] ≡ m ∷ [] → A
 no_response m none = absurd (cc)
 
 or_false : (b : Bool) → (b || false) ≡ b
@@ -38,7 +38,7 @@ noticed messages now = record now { table = table_behind messages now.table; not
 noticed_none : (now : Now) → now ≡ noticed [] now
 noticed_none now = (λ i. record now { notices = sym (append-nil now.notices) i })
 
-one_noticed : (m : Said) (now : Now) → IsNotice m → by_event (write m) now ≡ noticed (m ∷ []) now
+pub one_noticed : (m : Said) (now : Now) → IsNotice m → by_event (write m) now ≡ noticed (m ∷ []) now
 one_noticed (notification method params) now is = (λ i. record (noticed (notification method params ∷ []) now) { closed = or_false now.closed i })
 one_noticed (request id method params) now is = no_response (request id method params) is
 one_noticed (result id value) now is = no_response (result id value) is
@@ -140,6 +140,9 @@ module _ (active : Active) (g : Given) (messages : List Said) (tells : Tells g m
 cancels_as : (asked : Asked) (v : Verdict) (now : Now) (m : Said) → CancelsActive (active_as asked v) now m → CancelsAs asked v now m
 cancels_as asked (built build entries) now m cancels = cancels
 cancels_as asked (queued call) now m cancels = absurd cancels
+cancels_as asked (rereading space) now m cancels = absurd cancels
+cancels_as asked (reloading space file) now m cancels = absurd cancels
+cancels_as asked (cleaning space targets) now m cancels = absurd cancels
 cancels_as asked (building build) now m cancels = absurd cancels
 cancels_as asked (asking root) now m cancels = absurd cancels
 cancels_as asked (opening root file) now m cancels = absurd cancels

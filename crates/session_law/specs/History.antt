@@ -1,5 +1,5 @@
 -- What earlier builds checked, and so which checks of a build are due.
-use Rattle.std.specs.Prelude.{◌≡◌, ℕ, suc, List, ◌∷◌, Bool, Some, Contains}
+use Rattle.std.specs.Prelude.{◌≡◌, ◌++◌, ℕ, suc, List, ◌∷◌, map, Bool, Some, Contains}
 use Rattle.std.specs.List.{slice_get}
 use Rattle.build_rules.specs.Views.{as_view, IsShown}
 use Rattle.build_rules.specs.World.{World, HasImports, held_in}
@@ -13,10 +13,20 @@ use Rattle.target_graph.specs.Workspace.{IsClosure, id_of, pairs_of}
 use Rattle.target_graph.specs.declared.target.Pair.{Pair}
 use Rattle.task_stream.specs.declared.shown.TableKey.{TableKey}
 
--- A build that was answered, and the notifications that it wrote, the oldest first.
+-- A build that was answered.
 pub record Told : Type 0 where
   pub active : Active
+  -- the notifications that it wrote, the oldest first
   pub notices : List Said
+  -- the documents that were cleaned since, by their keys
+  pub cleaned : List TableKey
+
+-- the documents at these keys are cleaned: the build's checks of them don't count any more
+abbrev pub with_cleaned : List TableKey → Told → Told
+with_cleaned keys told = record told { cleaned = told.cleaned ++ keys }
+
+abbrev pub all_cleaned : List TableKey → List Told → List Told
+all_cleaned keys builds = map (with_cleaned keys) builds
 
 -- ---- targets and their tasks
 
@@ -32,12 +42,13 @@ pub record IsTaskOf (active : Active) (id : List ℕ) (i : ℕ) : Type 0 where
 
 -- ---- what a build checked
 
--- a check of the document with this key started in the build
+-- a check of the document with this key started in the build, and the document wasn't cleaned since
 pub record HasStarted (told : Told) (key : TableKey) : Type 0 where
   pub j : ℕ
   pub i : ℕ
   pub of_target : IsTaskOf told.active key.target i
   pub started : Contains told.notices (check_starts told.active.number j i key.document)
+  pub uncleaned : ¬ (Contains told.cleaned key)
 
 -- and it finished with the status 1 or 2, so it wasn't cancelled
 pub record HasChecked (told : Told) (key : TableKey) : Type 0 where
@@ -47,6 +58,7 @@ pub record HasChecked (told : Told) (key : TableKey) : Type 0 where
   pub of_target : IsTaskOf told.active key.target i
   pub started : Contains told.notices (check_starts told.active.number j i key.document)
   pub finished : Contains told.notices (check_finishes told.active.number j i (build_status failed))
+  pub uncleaned : ¬ (Contains told.cleaned key)
 
 -- Of some builds, the newest first, this is the last one that checked the document.
 pub data LastChecked (key : TableKey) : List Told → Told → Type 0 where

@@ -10,10 +10,11 @@ use Rattle.session_law.specs.Methods.{is_named}
 unfoldable pub text_of : Said → List ℕ
 text_of m = written_frame (body_of m)
 
--- a notification that the server writes: it publishes diagnostics and tells of tasks
+-- a notification that the server writes: it publishes diagnostics, tells of tasks, and of targets that changed
 abbrev pub is_notice : List ℕ → Bool
 is_notice method =
-    is_named (codes "build/publishDiagnostics") method || (is_named (codes "build/taskStart") method || is_named (codes "build/taskFinish") method)
+    is_named (codes "build/publishDiagnostics") method || (is_named (codes "build/taskStart") method || (is_named (codes "build/taskFinish") method
+    || is_named (codes "buildTarget/didChange") method))
 
 -- the server writes responses and notifications
 abbrev pub IsOfServer : Said → Type 0

@@ -16,6 +16,7 @@ pub mod Past
 pub mod PublishesInBuildsOnly
 pub mod Questions
 pub mod RefusesExactly
+pub mod Reloading
 pub mod Requests
 pub mod ShowsCleanBuild
 pub mod ShowsOldOrNew

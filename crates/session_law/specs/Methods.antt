@@ -32,6 +32,10 @@ sources_unreadable = negsuc 32602
 abbrev pub invalid_params : ℤ
 invalid_params = negsuc 32601
 
+-- RequestCancelled (Language Server Protocol 3.17, ErrorCodes)
+abbrev pub request_cancelled : ℤ
+request_cancelled = negsuc 32799
+
 -- a code of this server's own
 abbrev pub workspace_refused : ℤ
 workspace_refused = negsuc 32009
@@ -102,6 +106,10 @@ pub record Build : Type 0 where
 pub data Call : Type 0 where
   -- a compile of these targets, with the `originId` that was sent with it
   to_build : List BuildTargetIdentifier → Option (List ℕ) → Call
+  -- a reload
+  to_reload : Call
+  -- a cleaning of what is kept of these targets
+  to_clean : List BuildTargetIdentifier → Call
 
 -- What an open request is owed. At its take it is answered at once, or waits for files, or waits in the queue.
 pub data Verdict : Type 0 where
@@ -121,6 +129,12 @@ pub data Verdict : Type 0 where
   building : Build → Verdict
   -- the same, once they were handed out
   built : Build → Entries → Verdict
+  -- a reload that was taken up where this workspace is in force, and wants the workspace file
+  rereading : Space → Verdict
+  -- the same, once this was handed out for the file
+  reloading : Space → Held → Verdict
+  -- a cleaning that was taken up, of these targets of this workspace, by their index in its file
+  cleaning : Space → List ℕ → Verdict
 
 -- the path of the workspace file
 unfoldable pub workspace_path : List ℕ
@@ -183,9 +197,11 @@ abbrev pub asked_of : Space → Request → Verdict
 asked_of space (requests.Initialize p) = too_late
 asked_of space requests.Shutdown = closing
 asked_of space requests.BuildTargets = answering space all_targets
+asked_of space requests.Reload = queued to_reload
 asked_of space (requests.Sources p) = sourced space (found_from space 0 p.targets)
 asked_of space (requests.InverseSources p) = answering space (inverse_of p.text_document.uri)
 asked_of space (requests.Compile p) = queued (to_build p.targets p.origin_id)
+asked_of space (requests.CleanCache p) = queued (to_clean p.targets)
 
 abbrev pub asked_in : Option Space → Request → Verdict
 asked_in None request = first_asked request
@@ -225,9 +241,15 @@ abbrev pub found_build : Space → Option (List ℕ) → Found → Verdict
 found_build space origin (all_found targets) = building (record { space = space; asked = targets; origin = origin })
 found_build space origin (unknown_at index) = bad_at (target_path index)
 
+abbrev pub found_clean : Space → Found → Verdict
+found_clean space (all_found targets) = cleaning space targets
+found_clean space (unknown_at index) = bad_at (target_path index)
+
 -- what a call is owed that is taken up in this workspace
 abbrev pub taken_up : Call → Space → Verdict
 taken_up (to_build targets origin) space = found_build space origin (found_from space 0 targets)
+taken_up to_reload space = rereading space
+taken_up (to_clean targets) space = found_clean space (found_from space 0 targets)
 
 abbrev pub taken_in : Option Space → Call → Verdict
 taken_in (Some space) call = taken_up call space

@@ -1,29 +1,25 @@
 -- What a session is behind the events of its order so far: what it owes, has opened, shows and has ended with.
 use Rattle.std.specs.Prelude.{◌||◌, ℕ, ℤ, suc, List, [], ◌∷◌, ◌++◌, codes, Bool, false, Option, Some, None, Result, Ok, Err, drop, if◌then◌else◌}
 use Rattle.bsp_records.specs.Table.{Table, nothing_shown}
-use Rattle.ob_text.specs.declared.held.Held.{Held}
 use Rattle.rpc_peer.specs.Meaning.{meaning, invalid_request, parse_error}
 use Rattle.rpc_peer.specs.OpenIds.{same_id}
 use Rattle.rpc_peer.specs.Said.{Said, request, notification, result, failure}
-use Rattle.target_graph.specs.Faults.{file_targets}
 use Rattle.target_graph.specs.Workspace.{Space}
 use Rattle.session_law.specs.Builds.{shown_by}
-use Rattle.session_law.specs.History.{Told}
-use Rattle.session_law.specs.Methods.{Verdict, opening, is_named}
+use Rattle.session_law.specs.History.{Told, all_cleaned}
+use Rattle.session_law.specs.Methods.{Verdict, opening, reloading, cleaning, is_named}
 use Rattle.session_law.specs.Order.{Event, take, ends, hand, write}
+use Rattle.session_law.specs.Reloading.{keys_dropped, keys_of_targets, space_in}
 use Rattle.session_law.specs.Requests.{Active, Asked, active_of, all_marked, closed_by, first_up, granted_by, handed_by, is_closing, is_open, opened_by}
 use Rattle.session_law.specs.declared.InputEnd.{InputEnd}
 use Rattle.session_law.specs.declared.InputEnd.TheVariants.{Border, Damaged, Failed}
 
 -- ---- what an event changes, part by part
 
--- the workspace that a file describes, at this root
-abbrev pub space_in : List ℕ → Held → Space
-space_in root file = record { root = root; targets = file_targets file }
-
 -- the workspace in force once a request was answered with a result that was owed this
 abbrev pub force_by : Option Verdict → Option Space → Option Space
 force_by (Some (opening root file)) force = Some (space_in root file)
+force_by (Some (reloading space file)) force = Some (space_in space.root file)
 force_by granted force = force
 
 -- a shutdown was answered with this
@@ -61,8 +57,14 @@ end_status Failed = 3
 -- the builds that were answered, once this message is written where these notifications were
 abbrev pub builds_by : Said → Option Active → List Said → List Told → List Told
 builds_by (result (Some id) value) (Some active) notices builds =
-    if same_id id active.id then record { active = active; notices = notices } ∷ builds else builds
+    if same_id id active.id then record { active = active; notices = notices; cleaned = [] } ∷ builds else builds
 builds_by m active notices builds = builds
+
+-- the builds once a request was answered with a result that was owed this: it may clean documents
+abbrev pub cleaned_by : Option Verdict → List Told → List Told
+cleaned_by (Some (cleaning space targets)) builds = all_cleaned (keys_of_targets space targets) builds
+cleaned_by (Some (reloading space file)) builds = all_cleaned (keys_dropped space file) builds
+cleaned_by granted builds = builds
 
 -- what a message is for the client beside the responses
 abbrev pub notice_in : Said → List Said
@@ -78,7 +80,7 @@ pub record Now : Type 0 where
   pub taken : ℕ
   -- the requests that are open, in order of arrival
   pub requests : List Asked
-  -- the workspace in force: that of the last initialize that was answered with a result
+  -- the workspace in force: that of the last initialize or reload that was answered with a result
   pub force : Option Space
   -- a shutdown was answered with a result
   pub closed : Bool
@@ -92,7 +94,7 @@ pub record Now : Type 0 where
   pub table_at_hand : Table
   -- the notifications that were written since then, the oldest first
   pub notices : List Said
-  -- the builds that were answered with a result, the newest first, each with what it told
+  -- the builds that were answered with a result, the newest first, each with what it told and what was cleaned since
   pub builds : List Told
 
 abbrev pub at_start : Now
@@ -113,6 +115,10 @@ at_start =
 -- the requests that are open, the first of them judged by the workspace in force
 abbrev pub standing : Now → List Asked
 standing now = first_up now.force now.requests
+
+-- what the request is owed then that a message answers with a result
+abbrev pub granted_in : Said → Now → Option Verdict
+granted_in m now = granted_by m (standing now)
 
 abbrev pub by_event : Event → Now → Now
 by_event (take body) now =
@@ -137,12 +143,12 @@ by_event (hand handed) now =
 by_event (write m) now =
     record now {
       requests = closed_by m now.requests;
-      force = force_by (granted_by m now.requests) now.force;
-      closed = now.closed || closes (granted_by m now.requests);
+      force = force_by (granted_in m now) now.force;
+      closed = now.closed || closes (granted_in m now);
       nulls = nulls_behind m now.nulls;
       table = shown_by m now.table;
       notices = now.notices ++ notice_in m;
-      builds = builds_by m (active_of now.requests) now.notices now.builds;
+      builds = cleaned_by (granted_in m now) (builds_by m (active_of now.requests) now.notices now.builds);
     }
 
 -- what the session is behind these events

@@ -9,7 +9,7 @@ use Rattle.serde_json.specs.Data.{Data}
 use Rattle.target_graph.specs.Workspace.{Space}
 use Rattle.build_rules.specs.World.{handed_at}
 use Rattle.session_law.specs.Builds.{WantsPaths}
-use Rattle.session_law.specs.Methods.{Build, Verdict, asking, opening, queued, building, built, answering, closing, refusal, verdict, due_in, unreadable, workspace_path, is_named}
+use Rattle.session_law.specs.Methods.{Build, Verdict, asking, opening, queued, building, built, rereading, reloading, cleaning, answering, closing, refusal, verdict, due_in, unreadable, workspace_path, is_named}
 use Rattle.ob_text.specs.Held.{Entries}
 
 -- A request that is open: it was taken, wasn't refused with the id null, and has no response yet.
@@ -47,6 +47,9 @@ abbrev pub is_of_queue : Verdict → Bool
 is_of_queue (queued call) = true
 is_of_queue (building build) = true
 is_of_queue (built build entries) = true
+is_of_queue (rereading space) = true
+is_of_queue (reloading space file) = true
+is_of_queue (cleaning space targets) = true
 is_of_queue (asking root) = false
 is_of_queue (opening root file) = false
 is_of_queue (answering space question) = false
@@ -111,6 +114,7 @@ is_closing v = false
 abbrev pub Wants : Verdict → List (List ℕ) → Type 0
 Wants (asking root) paths = paths ≡ workspace_path ∷ []
 Wants (building build) paths = WantsPaths build paths
+Wants (rereading space) paths = paths ≡ workspace_path ∷ []
 Wants v paths = ⊥
 
 -- the request wants these paths, and isn't to be cancelled
@@ -145,6 +149,8 @@ handed_over None (asking root) = unreadable
 handed_over (Some entries) (asking root) = opening root (handed_at entries workspace_path)
 handed_over None (building build) = unreadable
 handed_over (Some entries) (building build) = built build entries
+handed_over None (rereading space) = unreadable
+handed_over (Some entries) (rereading space) = reloading space (handed_at entries workspace_path)
 handed_over handed v = v
 
 -- the tree answered the first request, judged by the workspace in force
@@ -158,7 +164,7 @@ closed_by (result (Some id) value) requests = without id requests
 closed_by (failure (Some id) code text) requests = without id requests
 closed_by m requests = requests
 
--- what the open request was owed that a message answers with a result
+-- what the open request is owed that a message answers with a result
 abbrev pub granted_by : Said → List Asked → Option Verdict
 granted_by (result (Some id) value) requests = owed_to id requests
 granted_by m requests = None

@@ -31,6 +31,7 @@ impl Model for Root {
 }
 
 impl Root {
+    ghost use Rattle.std.specs.Prelude.{◌≡◌, IfOk};
     ghost use Rattle.target_graph.specs.Root.{IsRoot};
 
     pub fn as_slice(&self) -> &[u8]
@@ -38,6 +39,15 @@ impl Root {
         ensures root { IsRoot self.now }
     {
         self.text.as_slice()
+    }
+
+    /// An equal value of its own.
+    pub fn copy(&self, alloc: Global) -> Result<Root, NoMemory>
+        ensures { IfOk result (λ root. root ≡ self.now) }
+    {
+        Ok(Root {
+            text: self.text.copy(alloc)?,
+        })
     }
 }
 

@@ -67,6 +67,16 @@ impl Workspace {
         }
     }
 
+    /// Reads another workspace file at the same root.
+    pub fn reread(&self, file: &Held) -> Result<Workspace, WorkspaceRefusal>
+        ensures accepted { IfOk result (Accepted file.now self.now.root) }
+        ensures refused { IfErr result (IsRefusal file.now) }
+        ensures plain { IfErr result IsPlainRefusal }
+    {
+        let root = self.root.copy(self.alloc)?;
+        Workspace::read(self.alloc, file, root)
+    }
+
     fn of_listing(
         alloc: Global,
         root: Root,

@@ -1,4 +1,4 @@
-ghost use Rattle.std.specs.Prelude.{◌≡◌, ◌≢◌, ◌↔◌, ◌++◌, ℕ, [], List, map, IfOk, IfSome, IsTrue, OnOk, OnErr};
+ghost use Rattle.std.specs.Prelude.{◌≡◌, ◌≢◌, ◌↔◌, ◌++◌, ℕ, [], List, None, map, IfOk, IfSome, IsTrue, OnOk, OnErr};
 ghost use Rattle.std.specs.List.{All};
 ghost use Rattle.std.specs.Str.{IsUtf8};
 ghost use Rattle.ob_text.specs.Ascii.{IsWithin};
@@ -92,6 +92,25 @@ impl Shown {
         let pieces = pieces_of(self.alloc, key, origin, &list)?;
         let own = key.copy(self.alloc)?;
         self.lists.insert(own, list)?;
+        Ok(pieces)
+    }
+
+    /// The publications that make a client show nothing at a key, none where it shows nothing there already. Nothing is kept
+    /// of the key any more.
+    pub fn clear(&mut self, key: &TableKey) -> Result<Vec<Piece>, NoMemory>
+        ensures same { IfOk result (λ ps. shows self.old key.now.document key.now.target ≡ [] → ps.items ≡ []) }
+        ensures other { IfOk result (λ ps. shows self.old key.now.document key.now.target ≢ [] → ps.items ≡ pieces key.now None []) }
+        ensures none { IfOk result (λ ps. ps.items ≡ [] → shows self.old key.now.document key.now.target ≡ []) }
+        ensures client { IfOk result (λ ps. MakeShow ps.items self.old key.now []) }
+        ensures table { OnOk result (ShowsNow self.old self.new key.now []) }
+        ensures few { IfOk result (λ ps. All IsPiece ps.items) }
+        ensures short { IfOk result (λ ps. All IsShortPublication ps.items) }
+        ensures err { OnErr result ((document target : List ℕ)
+            → shows self.new document target ≡ shows self.old document target) }
+    {
+        let origin = Arc::new(self.alloc, None)?;
+        let pieces = self.publish(key, &origin, Vec::new(self.alloc))?;
+        self.lists.swap_remove(key);
         Ok(pieces)
     }
 

@@ -163,11 +163,12 @@ fn limits_are_in_bytes(rt: HostRuntime) -> Result<(), Fail> {
 }
 
 /// A method, its params, and the path at which they are bad, if at any.
-const REQUESTS: [(&str, Option<&str>, &str); 8] = [
+const REQUESTS: [(&str, Option<&str>, &str); 10] = [
     ("build/initialize", None, "params"),
     ("build/initialize", Some("{}"), "displayName"),
     ("build/shutdown", Some("[]"), ""),
     ("workspace/buildTargets", None, ""),
+    ("workspace/reload", Some("[]"), ""),
     ("buildTarget/sources", Some("{\"targets\":[]}"), ""),
     (
         "buildTarget/inverseSources",
@@ -176,6 +177,11 @@ const REQUESTS: [(&str, Option<&str>, &str); 8] = [
     ),
     ("buildTarget/compile", Some("{\"targets\":[]}"), ""),
     ("buildTarget/compile", Some("null"), "params"),
+    (
+        "buildTarget/cleanCache",
+        Some("{\"targets\":[{}]}"),
+        "targets[0].uri",
+    ),
 ];
 
 fn asked(alloc: Global, method: Method, params: Option<&str>) -> Result<Text, Fail> {

@@ -1,4 +1,4 @@
-use Rattle.std.proofs.Common.{rules, List, length, get_or, sym, subst}
+use Rattle.std.proofs.Common.{rules, List, length, sym, subst}
 use Rattle.std.proofs.lemmas.Iterator.Adapters.{YieldsList-from_vec}
 use Rattle.std.proofs.lemmas.Iterator.Consumers.{YieldsList-turn}
 use Rattle.session_build.specs.Going.{IsJob}

@@ -18,5 +18,5 @@ returns-then-len-gt0 c =
 
 pub returns : goal.returns
 returns c =
-    ended c.args.self c.args.kept.now c.end.new.kept (map outgoing_said c.args.out.now.items) (map outgoing_said c.end.new.out.items) c.in_ok-failed.failed
+    ended c.args.self c.args.kept.now c.end.new.kept (map outgoing_said c.args.out.now.items) (map outgoing_said c.end.new.out.items) c.in_ok-failed.failed c.in_ok-failed.remains
     (none_left c.args.self.going.jobs.items (let none = c.if-len-gt0.false in let is = c.len.ensures in omega (arith, none, is, c.args.self.going.jobs.ok.0))) c.in_ok-failed.ensures

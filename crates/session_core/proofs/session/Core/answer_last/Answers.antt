@@ -18,7 +18,7 @@ pub returns-in_ok-say-in-Closing-clause-ok : goal.returns-in_ok-say-in-Closing-c
 returns-in_ok-say-in-Closing-clause-ok c =
     let old = c.args.self.now in
     let same = c.say-in-Closing.ensures.same in
-    says_last old (record c.say-in-Closing.new.self { closed = true }) c.args.id c.args.answer answers.Closing c.in-Closing.is _ c.closing.ensures c.in_ok-say-in-Closing.ensures.said
+    says_last old (record c.say-in-Closing.new.self { closed = true }) c.args.id c.args.answer answers.Closing c.in-Closing.is _ c.null_answer.ensures c.in_ok-say-in-Closing.ensures.said
     (ap (λ (core : Core). plain_of (record core { closed = true })) same) c.requires.named c.requires.short
     (ap (λ (core : Core). core.workspace) same) (ap (λ (core : Core). core.kept) same)
 

@@ -1,0 +1,11 @@
+pub mod Pairs
+pub mod Clearing
+pub mod Publishing
+pub mod Standing
+pub mod OwnLaws
+pub mod Telling
+pub mod Messages
+pub mod OneReload
+pub mod Accepted
+pub mod Refused
+pub mod Waiting
