@@ -2,6 +2,8 @@
 //!
 //!     initialize              opens the session, with id 1
 //!     compile 2 app lib       a compile with this id of these targets
+//!     clean 2 app lib         a cleaning with this id of what is kept of these targets
+//!     reload 3                a reload with this id
 //!     targets 3               a question with this id, which is answered at once
 //!     cancel 2
 //!     shutdown 4
@@ -58,8 +60,15 @@ fn body_of(alloc: Global, kind: &str, rest: &str, origin: &str) -> Result<String
     match kind {
         "compile" => {
             let (id, targets) = rest.split_once(" ").unwrap_or((rest, ""));
-            compile(alloc, id, targets, origin)
+            of_targets(alloc, "compile", id, targets, origin)
         }
+        "clean" => {
+            let (id, targets) = rest.split_once(" ").unwrap_or((rest, ""));
+            of_targets(alloc, "cleanCache", id, targets, "")
+        }
+        "reload" => Ok(format!(in alloc;
+            "{{\"jsonrpc\":\"2.0\",\"id\":{rest},\"method\":\"workspace/reload\"}}"
+        )?),
         "targets" => Ok(format!(in alloc;
             "{{\"jsonrpc\":\"2.0\",\"id\":{rest},\"method\":\"workspace/buildTargets\"}}"
         )?),
@@ -75,6 +84,17 @@ fn body_of(alloc: Global, kind: &str, rest: &str, origin: &str) -> Result<String
 
 /// The body of a compile with this id of targets that are named with blanks between.
 pub fn compile(alloc: Global, id: &str, asked: &str, origin: &str) -> Result<String, Fail> {
+    of_targets(alloc, "compile", id, asked, origin)
+}
+
+/// The body of a request of this method of some targets.
+fn of_targets(
+    alloc: Global,
+    method: &str,
+    id: &str,
+    asked: &str,
+    origin: &str,
+) -> Result<String, Fail> {
     let mut targets = String::new(alloc);
     for name in asked.split_whitespace() {
         let comma = if targets.is_empty() { "" } else { "," };
@@ -82,6 +102,6 @@ pub fn compile(alloc: Global, id: &str, asked: &str, origin: &str) -> Result<Str
         targets.push_str(target.as_str())?;
     }
     Ok(format!(in alloc;
-        "{{\"jsonrpc\":\"2.0\",\"id\":{id},\"method\":\"buildTarget/compile\",\"params\":{{{origin}\"targets\":[{targets}]}}}}"
+        "{{\"jsonrpc\":\"2.0\",\"id\":{id},\"method\":\"buildTarget/{method}\",\"params\":{{{origin}\"targets\":[{targets}]}}}}"
     )?)
 }

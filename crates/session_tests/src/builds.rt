@@ -1,23 +1,24 @@
+use crate::runs::WORKSPACE_FILE;
 use crate::steps::{APP, Case, OF_APP, expect_case};
 use std::test::Fail;
 
 const LIBRARY: (&[u8], &[u8]) = (
-    b"oberon-build.json",
+    WORKSPACE_FILE,
     b"{\"version\":1,\"targets\":[{\"name\":\"lib\",\"kind\":\"library\",\"modules\":[\"A.Mod\",\"B.Mod\",\"C.Mod\"]}]}",
 );
 
 const APP_ON_LIB: (&[u8], &[u8]) = (
-    b"oberon-build.json",
+    WORKSPACE_FILE,
     b"{\"version\":1,\"targets\":[{\"name\":\"lib\",\"kind\":\"library\",\"modules\":[\"B.Mod\"]},{\"name\":\"app\",\"kind\":\"application\",\"modules\":[\"A.Mod\"],\"dependencies\":[\"lib\"],\"main\":\"A\"}]}",
 );
 
 const APART: (&[u8], &[u8]) = (
-    b"oberon-build.json",
+    WORKSPACE_FILE,
     b"{\"version\":1,\"targets\":[{\"name\":\"one\",\"kind\":\"library\",\"modules\":[\"one/A.Mod\",\"one/B.Mod\"]},{\"name\":\"two\",\"kind\":\"library\",\"modules\":[\"two/A.Mod\",\"two/B.Mod\"]}]}",
 );
 
 const SHARED: (&[u8], &[u8]) = (
-    b"oberon-build.json",
+    WORKSPACE_FILE,
     b"{\"version\":1,\"targets\":[{\"name\":\"one\",\"kind\":\"library\",\"modules\":[\"A.Mod\"]},{\"name\":\"two\",\"kind\":\"library\",\"modules\":[\"A.Mod\"]}]}",
 );
 
@@ -268,7 +269,7 @@ const OF_APP_AND_TESTS: &str = "{\"uri\":\"file:///w/?id=app\"},{\"uri\":\"file:
 const LAYERS: Case<'static> = (
     &[
         (
-            b"oberon-build.json",
+            WORKSPACE_FILE,
             b"{\"version\":1,\"targets\":[{\"name\":\"lib\",\"kind\":\"library\",\"modules\":[\"M0.Mod\",\"M1.Mod\",\"M2.Mod\",\"M3.Mod\",\"M4.Mod\",\"M5.Mod\",\"M6.Mod\",\"M7.Mod\"]},{\"name\":\"app\",\"kind\":\"application\",\"modules\":[\"A0.Mod\",\"A1.Mod\",\"A2.Mod\",\"A3.Mod\"],\"dependencies\":[\"lib\"],\"main\":\"A0\"},{\"name\":\"suite\",\"kind\":\"test\",\"modules\":[\"T0.Mod\"],\"dependencies\":[\"lib\"]}]}",
         ),
         (

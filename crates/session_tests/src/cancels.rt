@@ -5,7 +5,9 @@
 ghost use Rattle.worker_pool.specs.Crews.{IsFresh};
 
 use crate::asked::add_asked;
-use crate::runs::{Fails, Files, NOTHING_FAILS, expect_left, run_by, tree};
+use crate::runs::{
+    Fails, Files, NOTHING_FAILS, WORKSPACE_FILE, changing_tree, expect_left, run_by,
+};
 use crate::sent::Sent;
 use crate::steps::APP;
 use crate::told::add_told;
@@ -14,12 +16,15 @@ use std::process::Abort;
 use std::test::Fail;
 use worker_pool::{Crew, InlineCrew};
 
-/// A session: the files, what changes before a call of the tree (the second call is that of the first build), what is sent,
-/// the member `originId` of its compiles, which reads of the input fail, what is written, and the status.
+/// A session: the files, what changes and what goes before a call of the tree (the second call is that of the first build),
+/// which calls of it fail, what is sent, the member `originId` of its compiles, which reads of the input fail, what is written,
+/// and the status.
 #[derive(Clone, Copy)]
 pub struct Row<'a> {
     pub files: Files<'a>,
     pub changes: &'a [(u64, &'a [u8], &'a [u8])],
+    pub gone: &'a [(u64, &'a [u8])],
+    pub unread: &'a [u64],
     pub sent: &'a str,
     pub origin: &'a str,
     pub failing: &'static [u64],
@@ -31,6 +36,8 @@ pub struct Row<'a> {
 pub const ROW: Row<'static> = Row {
     files: &[APP, CLEAN],
     changes: &[],
+    gone: &[],
+    unread: &[],
     sent: "",
     origin: "",
     failing: &[],
@@ -42,7 +49,7 @@ pub const ROW: Row<'static> = Row {
 const CLEAN: (&[u8], &[u8]) = (b"A.Mod", b"MODULE A; END A.");
 
 pub const THREE: (&[u8], &[u8]) = (
-    b"oberon-build.json",
+    WORKSPACE_FILE,
     b"{\"version\":1,\"targets\":[{\"name\":\"app\",\"kind\":\"application\",\"modules\":[\"A.Mod\",\"B.Mod\",\"C.Mod\"],\"main\":\"A\"}]}",
 );
 
@@ -119,7 +126,7 @@ null 6
 };
 
 /// Cancels of builds that run and of ones that wait.
-const CANCELS: [Row<'static>; 6] = [
+const CANCELS: &[Row<'static>] = &[
     // All in one piece. Only the first cancel of an id finds its request.
     Row {
         sent: "
@@ -325,7 +332,7 @@ null 4
 ];
 
 /// Ids that are taken, and cancels that find no request.
-const IDLE: [Row<'static>; 4] = [
+const IDLE: &[Row<'static>] = &[
     // A request may not have the id of one that is open, whether that runs or waits.
     Row {
         sent: "
@@ -334,6 +341,8 @@ compile 2 app
 compile 2 app
 compile 9223372036854775807 app
 targets 9223372036854775807
+reload 2
+clean 9223372036854775807 app
 wait
 shutdown 3
 exit
@@ -343,6 +352,8 @@ initialized
 start r2
 start r2.t1 app
 start r2.c1 r2.t1 A.Mod
+error null -32600 invalid request
+error null -32600 invalid request
 error null -32600 invalid request
 error null -32600 invalid request
 finish r2.c1 r2.t1 1
@@ -403,6 +414,34 @@ null 8
 ",
         ..ROW
     },
+    // Ids of a reload and of a cleaning that are answered.
+    Row {
+        sent: "
+initialize
+reload 2
+cancel 2
+clean 3 app
+cancel 3
+compile 4 app
+wait
+shutdown 5
+exit
+",
+        told: "
+initialized
+null 2
+cleaned 3
+start r6
+start r6.t1 app
+start r6.c1 r6.t1 A.Mod
+finish r6.c1 r6.t1 1
+report r6.t1 app 0 0
+finish r6 1
+result 4 1
+null 5
+",
+        ..ROW
+    },
     // Texts are ids too, and none is that of a number.
     Row {
         sent: "
@@ -446,19 +485,27 @@ null \"a\"
         sent: "
 cancel 2
 compile 2 app
+reload 3
+clean 4 app
 cancel 2
 initialize
-shutdown 3
-cancel 3
-compile 4 app
-cancel 4
+shutdown 5
+cancel 5
+compile 6 app
+reload 7
+clean 8 app
+cancel 8
 exit
 ",
         told: "
 error 2 -32002 server not initialized
+error 3 -32002 server not initialized
+error 4 -32002 server not initialized
 initialized
-null 3
-error 4 -32600 invalid request
+null 5
+error 6 -32600 invalid request
+error 7 -32600 invalid request
+error 8 -32600 invalid request
 ",
         ..ROW
     },
@@ -479,7 +526,7 @@ const ENDS: [(&str, &[u64], &str, &str, u8); 5] = [
         "bytes Content-Length: 9",
         &[],
         "error null -32700 parse error",
-        "damaged input at byte 607: truncated\n",
+        "damaged input at byte 813: truncated\n",
         2,
     ),
     // The first call reads a piece, the next two polls find nothing, and the one behind them fails.
@@ -490,7 +537,9 @@ const BEFORE_THE_END: &str = "
 initialize
 compile 2 app
 compile 3 app
+reload 6
 compile 4 app
+clean 7 app
 wait 2
 ";
 
@@ -508,13 +557,23 @@ finish r2.t1 r2 3
 finish r2 3
 result 2 3
 result 3 3
+error 6 -32800 request cancelled
 result 4 3
+error 7 -32800 request cancelled
 ";
 
 /// Runs the session of a row by the crew that the program has, and looks at all that it is answered.
 pub fn expect_row(rt: &(impl Abort + AllocGlobal), row: &Row) -> Result<(), Fail> {
     let mut crew = InlineCrew::new(rt.alloc());
     expect_by(rt, row, &mut crew)
+}
+
+/// The same of each of these rows.
+pub fn expect_rows(rt: &(impl Abort + AllocGlobal), rows: &[Row]) -> Result<(), Fail> {
+    for row in rows {
+        expect_row(rt, row)?;
+    }
+    Ok(())
 }
 
 /// The same by a crew that was given no job.
@@ -541,7 +600,7 @@ pub fn expect_told<C: Crew>(
 ) -> Result<(), Fail>
     requires { IsFresh (C.sight crew.old) }
 {
-    let mut tree = tree(rt.alloc(), row.files, row.changes, &[])?;
+    let mut tree = changing_tree(rt.alloc(), row.files, row.changes, row.gone, row.unread)?;
     let taken = session.bytes.len() as u64;
     let fails = Fails {
         input: row.failing,
@@ -566,36 +625,30 @@ fn output_of(alloc: Global, row: &Row) -> Result<Vec<u8>, Fail> {
 
 #[test]
 fn cancels_what_is_open(rt: HostRuntime) -> Result<(), Fail> {
-    for row in &CANCELS {
-        expect_row(&rt, row)?;
-    }
-    Ok(())
+    expect_rows(&rt, CANCELS)
 }
 
 #[test]
 fn cancels_nothing_else(rt: HostRuntime) -> Result<(), Fail> {
-    for row in &IDLE {
-        expect_row(&rt, row)?;
-    }
-    Ok(())
+    expect_rows(&rt, IDLE)
 }
 
-/// The session of a row with an end, and what that writes.
-fn expect_end(
+/// The session of a row with more lines behind it, and what these write.
+pub fn expect_longer(
     rt: &(impl Abort + AllocGlobal),
     row: &Row,
-    end: &str,
+    sent: &str,
     told: &str,
 ) -> Result<(), Fail> {
     let mut session = sent_of(rt.alloc(), row)?;
-    add_asked(rt.alloc(), end, "", &mut session)?;
+    add_asked(rt.alloc(), sent, row.origin, &mut session)?;
     let mut output = output_of(rt.alloc(), row)?;
-    add_told(rt.alloc(), told, "", &mut output)?;
+    add_told(rt.alloc(), told, row.origin, &mut output)?;
     let mut crew = InlineCrew::new(rt.alloc());
     expect_told(rt, row, session, output.as_slice(), &mut crew)
 }
 
-/// What ends a session cancels the build that runs first, and then those that wait, in order.
+/// What ends a session cancels the build that runs first, and then what waits, in order.
 #[test]
 fn ends_while_a_build_runs(rt: HostRuntime) -> Result<(), Fail> {
     for (end, failing, told, notes, status) in ENDS {
@@ -608,7 +661,7 @@ fn ends_while_a_build_runs(rt: HostRuntime) -> Result<(), Fail> {
             status,
             ..ROW
         };
-        expect_end(&rt, &row, end, told)?;
+        expect_longer(&rt, &row, end, told)?;
     }
     Ok(())
 }

@@ -1,14 +1,13 @@
 use crate::cancels::{ROW, Row, expect_row};
 use crate::runs::{
-    CLOSED, Files, INITIALIZED, Parts, expect_answers, expect_whole, session_of, tree,
+    CLOSED, Files, INITIALIZED, Parts, WORKSPACE_FILE, expect_answers, expect_whole, session_of,
+    tree,
 };
 use crate::sent::add_frame;
+use crate::steps::APP;
 use crate::told::add_told;
 use std::alloc::Global;
 use std::test::Fail;
-
-pub const APP: &[u8] =
-    b"{\"version\":1,\"targets\":[{\"name\":\"app\",\"kind\":\"application\",\"modules\":[\"A.Mod\"],\"main\":\"A\"}]}";
 
 const APP_ON_LIB: &[u8] =
     b"{\"version\":1,\"targets\":[{\"name\":\"lib\",\"kind\":\"library\",\"modules\":[\"B.Mod\"]},{\"name\":\"app\",\"kind\":\"application\",\"modules\":[\"A.Mod\"],\"dependencies\":[\"lib\"],\"main\":\"A\"}]}";
@@ -62,9 +61,7 @@ const UNKNOWN_TARGET: &[u8] =
 const UNREADABLE_2: &[u8] =
     b"{\"error\":{\"code\":-32603,\"message\":\"sources unreadable\"},\"id\":2,\"jsonrpc\":\"2.0\"}";
 
-const FILE_OF_APP: (&[u8], &[u8]) = (b"oberon-build.json", APP);
-
-const FILE_OF_BOTH: (&[u8], &[u8]) = (b"oberon-build.json", APP_ON_LIB);
+const FILE_OF_BOTH: (&[u8], &[u8]) = (WORKSPACE_FILE, APP_ON_LIB);
 
 /// A session of compiles: the files, what changes before a call of the tree, which calls of it fail, the requests and
 /// what is answered.
@@ -79,7 +76,7 @@ type Case = (
 const CASES: [Case; 7] = [
     // What was found is shown until it is mended.
     (
-        &[FILE_OF_APP, (b"A.Mod", OPEN_COMMENT)],
+        &[APP, (b"A.Mod", OPEN_COMMENT)],
         &[(3, b"A.Mod", CLEAN)],
         &[],
         &[COMPILE_2, COMPILE_3],
@@ -87,21 +84,15 @@ const CASES: [Case; 7] = [
     ),
     // What is shown already isn't published again.
     (
-        &[FILE_OF_APP, (b"A.Mod", OPEN_COMMENT)],
+        &[APP, (b"A.Mod", OPEN_COMMENT)],
         &[],
         &[],
         &[COMPILE_2, COMPILE_3],
         &[OPEN_COMMENT_SHOWN, FAILED_2, FAILED_3],
     ),
+    (&[APP], &[], &[], &[COMPILE_2], &[ABSENT_SHOWN, FAILED_2]),
     (
-        &[FILE_OF_APP],
-        &[],
-        &[],
-        &[COMPILE_2],
-        &[ABSENT_SHOWN, FAILED_2],
-    ),
-    (
-        &[FILE_OF_APP, (b"A.Mod", b"MODULE A; BEGIN x = 1 END A.")],
+        &[APP, (b"A.Mod", b"MODULE A; BEGIN x = 1 END A.")],
         &[],
         &[],
         &[COMPILE_2],
@@ -116,7 +107,7 @@ const CASES: [Case; 7] = [
         &[LIB_SHOWN, OPEN_COMMENT_SHOWN, FAILED_2],
     ),
     (
-        &[FILE_OF_APP, (b"A.Mod", CLEAN)],
+        &[APP, (b"A.Mod", CLEAN)],
         &[],
         &[],
         &[COMPILE_ZZZ, COMPILE_NONE, COMPILE_2],
@@ -124,7 +115,7 @@ const CASES: [Case; 7] = [
     ),
     // The session goes on behind a tree that failed.
     (
-        &[FILE_OF_APP, (b"A.Mod", CLEAN)],
+        &[APP, (b"A.Mod", CLEAN)],
         &[],
         &[2],
         &[COMPILE_2, COMPILE_3],
@@ -217,7 +208,7 @@ fn told_in_pieces(alloc: Global) -> Result<Vec<u8>, Fail> {
 #[test]
 fn publishes_a_long_list_in_pieces(rt: HostRuntime) -> Result<(), Fail> {
     let text = bad_characters(rt.alloc())?;
-    let files: [(&[u8], &[u8]); 2] = [FILE_OF_APP, (b"A.Mod", text.as_slice())];
+    let files: [(&[u8], &[u8]); 2] = [APP, (b"A.Mod", text.as_slice())];
     let mut tree = tree(rt.alloc(), &files, &[], &[])?;
     let session = session_of(rt.alloc(), &[COMPILE_2])?;
     let output = told_in_pieces(rt.alloc())?;
@@ -228,7 +219,7 @@ fn publishes_a_long_list_in_pieces(rt: HostRuntime) -> Result<(), Fail> {
 #[test]
 fn publishes_nothing_of_a_check_that_was_not_done(rt: HostRuntime) -> Result<(), Fail> {
     let text = bad_characters(rt.alloc())?;
-    let files: [(&[u8], &[u8]); 2] = [FILE_OF_APP, (b"A.Mod", text.as_slice())];
+    let files: [(&[u8], &[u8]); 2] = [APP, (b"A.Mod", text.as_slice())];
     expect_row(
         &rt,
         &Row {

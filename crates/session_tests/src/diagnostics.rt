@@ -1,5 +1,5 @@
 //! Each of the diagnostics, as an editor is shown it: the smallest workspace that has it, and the status of its compile.
-use crate::runs::Files;
+use crate::runs::{Files, WORKSPACE_FILE};
 use crate::steps::{APP, Case, List, OF_APP, expect_case};
 use std::process::Abort;
 use std::test::Fail;
@@ -195,7 +195,7 @@ const BODIES: [(&[u8], &str, u32); 13] = [
 ];
 
 const PAIR: (&[u8], &[u8]) = (
-    b"oberon-build.json",
+    WORKSPACE_FILE,
     b"{\"version\":1,\"targets\":[{\"name\":\"app\",\"kind\":\"application\",\"modules\":[\"A.Mod\",\"B.Mod\"],\"main\":\"A\"}]}",
 );
 

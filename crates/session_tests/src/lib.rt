@@ -1,8 +1,8 @@
 //! The rows of whole sessions, over a source, a tree and sinks in memory.
 //!
 //! It stands on `bsp_cli` and `bsp_edge`, and has no code of its own: a crate with tests is proved twice, so these stand
-//! above the crate that they are of. Begin with `rows.rt`, with `tasks.rt` for what builds tell, and with `cancels.rt` for
-//! what becomes of a build that a message comes across.
+//! above the crate that they are of. Begin with `rows.rt`, with `tasks.rt` for what builds tell, with `cancels.rt` for what
+//! becomes of a build that a message comes across, and with `reloads.rt` for a workspace that changes.
 #![tactic(auto)]
 
 #[cfg(test)]
@@ -12,6 +12,8 @@ mod builds;
 #[cfg(test)]
 mod cancels;
 #[cfg(test)]
+mod cleanings;
+#[cfg(test)]
 mod compiles;
 #[cfg(test)]
 mod crews;
@@ -20,7 +22,11 @@ mod diagnostics;
 #[cfg(test)]
 mod many;
 #[cfg(test)]
+mod moves;
+#[cfg(test)]
 mod questions;
+#[cfg(test)]
+mod reloads;
 #[cfg(test)]
 mod rows;
 #[cfg(test)]
@@ -35,3 +41,7 @@ mod tasks;
 mod told;
 #[cfg(test)]
 mod turns;
+#[cfg(test)]
+mod unchanged;
+#[cfg(test)]
+mod waiting;

@@ -1,5 +1,4 @@
-use crate::compiles::APP;
-use crate::runs::{Files, expect_answers, tree};
+use crate::runs::{APP_ALONE, Files, WORKSPACE_FILE, expect_answers, tree};
 use std::test::Fail;
 
 const THREE: &[u8] =
@@ -67,7 +66,7 @@ const INVERSE_BAD_ANSWER: &[u8] =
 /// A workspace file, the requests and what is answered.
 const CASES: [(&[u8], &[&[u8]], &[&[u8]]); 3] = [
     (
-        APP,
+        APP_ALONE,
         &[SOURCES_2, INVERSE_3, TARGETS_4],
         &[SOURCES_2_ANSWER, INVERSE_3_ANSWER, TARGETS_4_ANSWER],
     ),
@@ -84,7 +83,7 @@ const CASES: [(&[u8], &[&[u8]], &[&[u8]]); 3] = [
     ),
     // What is bad or unknown is named at its place.
     (
-        APP,
+        APP_ALONE,
         &[SOURCES_UNKNOWN, SOURCES_BAD, SOURCES_BARE, INVERSE_BAD],
         &[
             SOURCES_UNKNOWN_ANSWER,
@@ -99,7 +98,7 @@ const CASES: [(&[u8], &[&[u8]], &[&[u8]]); 3] = [
 fn answers_questions(rt: HostRuntime) -> Result<(), Fail> {
     let alloc = rt.alloc();
     for (workspace, requests, answers) in CASES {
-        let files: Files = &[(b"oberon-build.json", workspace)];
+        let files: Files = &[(WORKSPACE_FILE, workspace)];
         let mut tree = tree(alloc, files, &[], &[])?;
         expect_answers(&rt, &mut tree, requests, answers)?;
     }

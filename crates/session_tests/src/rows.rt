@@ -1,6 +1,7 @@
 use crate::runs::{
     CLOSED, EXIT, Fails, INITIALIZE, INITIALIZED, NOTHING_FAILS, Parts, Row, SHUTDOWN, WORKSPACE,
-    WORKSPACE_ALONE, expect, expect_over, expect_whole, file, framed, joined, plain, tree,
+    WORKSPACE_ALONE, WORKSPACE_FILE, expect, expect_over, expect_whole, file, framed, joined,
+    plain, tree,
 };
 use crate::sent::Sent;
 use bsp_cli::{Ended, Status, read_words, run_words};
@@ -384,7 +385,7 @@ fn tree_is_asked_for_the_workspace_file(rt: HostRuntime) -> Result<(), Fail> {
         &mut tree,
     )?;
     let handed = tree.handed().first().ok_or("nothing was handed out")?;
-    let want = [file(rt.alloc(), b"oberon-build.json", WORKSPACE)?];
+    let want = [file(rt.alloc(), WORKSPACE_FILE, WORKSPACE)?];
     assert!(rt; handed.entries.as_slice() == want.as_slice());
     Ok(())
 }

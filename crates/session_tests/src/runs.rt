@@ -24,14 +24,21 @@ pub const INITIALIZED: &[u8] =
 pub const CLOSED: &[u8] =
     b"Content-Length: 38\r\n\r\n{\"id\":2,\"jsonrpc\":\"2.0\",\"result\":null}";
 
+/// The path of the file that describes a workspace.
+pub const WORKSPACE_FILE: &[u8] = b"oberon-build.json";
+
 pub const WORKSPACE: &[u8] = b"{\"version\":1,\"targets\":[]}";
+
+/// A workspace of one target, which has one module.
+pub const APP_ALONE: &[u8] =
+    b"{\"version\":1,\"targets\":[{\"name\":\"app\",\"kind\":\"application\",\"modules\":[\"A.Mod\"],\"main\":\"A\"}]}";
 
 pub type Parts<'a> = &'a [&'a [u8]];
 
 pub type Files<'a> = &'a [(&'a [u8], &'a [u8])];
 
 /// The files of a workspace without targets.
-pub const WORKSPACE_ALONE: Files<'static> = &[(b"oberon-build.json", WORKSPACE)];
+pub const WORKSPACE_ALONE: Files<'static> = &[(WORKSPACE_FILE, WORKSPACE)];
 
 /// The ordinals of the calls that fail.
 #[derive(Clone, Copy)]
@@ -112,11 +119,19 @@ fn snapshot(alloc: Global, files: Files) -> Result<Snapshot, Fail> {
     })
 }
 
-fn changed(alloc: Global, changes: &[(u64, &[u8], &[u8])]) -> Result<Vec<(u64, Path, Held)>, Fail> {
+/// What is put in and what is taken out before a call of a tree.
+fn changed(
+    alloc: Global,
+    changes: &[(u64, &[u8], &[u8])],
+    gone: &[(u64, &[u8])],
+) -> Result<Vec<(u64, Path, Held)>, Fail> {
     let mut later = Vec::new(alloc);
     for (call, path, text) in changes {
         let (path, held) = file(alloc, path, text)?;
         later.push((*call, path, held))?;
+    }
+    for (call, path) in gone {
+        later.push((*call, Path::new(alloc, path)?, Held::Absent))?;
     }
     Ok(later)
 }
@@ -128,8 +143,19 @@ pub fn tree(
     changes: &[(u64, &[u8], &[u8])],
     failing: &[u64],
 ) -> Result<MemTree, Fail> {
+    changing_tree(alloc, files, changes, &[], failing)
+}
+
+/// The same, and the third list is taken out before the call of that number.
+pub fn changing_tree(
+    alloc: Global,
+    files: Files,
+    changes: &[(u64, &[u8], &[u8])],
+    gone: &[(u64, &[u8])],
+    failing: &[u64],
+) -> Result<MemTree, Fail> {
     let files = snapshot(alloc, files)?;
-    let later = changed(alloc, changes)?;
+    let later = changed(alloc, changes, gone)?;
     Ok(MemTree::new(alloc, files, later, Vec::from_slice(alloc, failing)?))
 }
 

@@ -1,6 +1,7 @@
 //! Sessions of compiles: what each compile publishes, and how it ends.
 use crate::runs::{
-    CLOSED, EXIT, Files, INITIALIZE, INITIALIZED, SHUTDOWN, expect_shown, joined, tree,
+    APP_ALONE, CLOSED, EXIT, Files, INITIALIZE, INITIALIZED, SHUTDOWN, WORKSPACE_FILE,
+    expect_shown, joined, tree,
 };
 use crate::sent::{Sent, add_frame};
 use std::alloc::Global;
@@ -17,10 +18,7 @@ pub type Step<'a> = (&'a str, &'a [List<'a>], u32);
 /// The files, what changes before a call of the tree (the second call is that of the first compile), and the compiles.
 pub type Case<'a> = (Files<'a>, &'a [(u64, &'a [u8], &'a [u8])], &'a [Step<'a>]);
 
-pub const APP: (&[u8], &[u8]) = (
-    b"oberon-build.json",
-    b"{\"version\":1,\"targets\":[{\"name\":\"app\",\"kind\":\"application\",\"modules\":[\"A.Mod\"],\"main\":\"A\"}]}",
-);
+pub const APP: (&[u8], &[u8]) = (WORKSPACE_FILE, APP_ALONE);
 
 pub const OF_APP: &str = "{\"uri\":\"file:///w/?id=app\"}";
 

@@ -2,7 +2,9 @@
 //!
 //! Initialize is the first message of each session, so the compiles are messages 2, 3 and so on. These are their ids too.
 use crate::asked::compile;
-use crate::runs::{CLOSED, EXIT, Files, INITIALIZE, INITIALIZED, SHUTDOWN, expect_whole, tree};
+use crate::runs::{
+    CLOSED, EXIT, Files, INITIALIZE, INITIALIZED, SHUTDOWN, WORKSPACE_FILE, expect_whole, tree,
+};
 use crate::sent::Sent;
 use crate::steps::APP;
 use crate::told::add_told;
@@ -32,22 +34,22 @@ const ROW: Row<'static> = Row {
 };
 
 const APP_ON_LIB: (&[u8], &[u8]) = (
-    b"oberon-build.json",
+    WORKSPACE_FILE,
     b"{\"version\":1,\"targets\":[{\"name\":\"lib\",\"kind\":\"library\",\"modules\":[\"B.Mod\"]},{\"name\":\"app\",\"kind\":\"application\",\"modules\":[\"A.Mod\",\"C.Mod\"],\"dependencies\":[\"lib\"],\"main\":\"A\"}]}",
 );
 
 const PAIR: (&[u8], &[u8]) = (
-    b"oberon-build.json",
+    WORKSPACE_FILE,
     b"{\"version\":1,\"targets\":[{\"name\":\"lib\",\"kind\":\"library\",\"modules\":[\"B.Mod\"]},{\"name\":\"app\",\"kind\":\"application\",\"modules\":[\"A.Mod\"],\"dependencies\":[\"lib\"],\"main\":\"A\"}]}",
 );
 
 const LIBRARY: (&[u8], &[u8]) = (
-    b"oberon-build.json",
+    WORKSPACE_FILE,
     b"{\"version\":1,\"targets\":[{\"name\":\"lib\",\"kind\":\"library\",\"modules\":[\"A.Mod\",\"B.Mod\",\"C.Mod\"]}]}",
 );
 
 const SHARED: (&[u8], &[u8]) = (
-    b"oberon-build.json",
+    WORKSPACE_FILE,
     b"{\"version\":1,\"targets\":[{\"name\":\"one\",\"kind\":\"library\",\"modules\":[\"A.Mod\"]},{\"name\":\"two\",\"kind\":\"library\",\"modules\":[\"A.Mod\"]}]}",
 );
 

@@ -15,7 +15,12 @@
 //!     finish r2 2                     a build, with its status
 //!     result 2 2                      an answer, with its status
 //!     null 2                          an answer without a value
+//!     cleaned 2                       the answer to a cleaning
+//!     clear old Z.Mod                 the empty list of a document that a reload drops: it has no originId
+//!     changed new 1 old 3             targets that were created (1), changed (2) or deleted (3)
+//!     targets 4 app application       an answer that lists targets, each with its kind, and none with a dependency
 //!     error 2 -32603 sources unreadable
+//!     body {"id":1}                   a message as it is written
 use crate::runs::INITIALIZED;
 use crate::sent::add_frame;
 use crate::steps::published;
@@ -45,12 +50,17 @@ fn body_of(alloc: Global, line: &str, origin: &str) -> Result<Vec<u8>, Fail> {
     let (kind, rest) = parted(line, " ")?;
     match kind {
         "publish" => publication(alloc, rest, origin),
+        "clear" => publication(alloc, rest, ""),
         "error" => error(alloc, rest),
         "null" => null(alloc, rest),
+        "cleaned" => cleaned(alloc, rest),
+        "changed" => changed(alloc, rest),
+        "targets" => targets(alloc, rest),
         "result" => result(alloc, rest, origin),
         "report" => report(alloc, rest, origin),
         "start" => start(alloc, rest),
         "finish" => finish(alloc, rest),
+        "body" => Ok(Vec::from_slice(alloc, rest.as_bytes())?),
         _ => Err(Fail::from("a line tells nothing")),
     }
 }
@@ -65,6 +75,19 @@ fn parted<'a>(text: &'a str, mark: &str) -> Result<(&'a str, &'a str), Fail> {
 
 fn words_of<'a>(alloc: Global, text: &'a str) -> Result<Vec<&'a str>, Fail> {
     Ok(text.split(' ').collect(alloc)?)
+}
+
+/// The words of a text, two by two.
+fn pairs_of<'a>(alloc: Global, text: &'a str) -> Result<Vec<(&'a str, &'a str)>, Fail> {
+    let words = words_of(alloc, text)?;
+    let mut pairs = Vec::new(alloc);
+    for pair in words.as_slice().chunks(2) {
+        let [first, second] = pair else {
+            return Err(Fail::from("a word of a pair is missing"));
+        };
+        pairs.push((*first, *second))?;
+    }
+    Ok(pairs)
 }
 
 fn owned(alloc: Global, text: String) -> Result<Vec<u8>, Fail> {
@@ -91,6 +114,47 @@ fn error(alloc: Global, rest: &str) -> Result<Vec<u8>, Fail> {
 
 fn null(alloc: Global, id: &str) -> Result<Vec<u8>, Fail> {
     let body = format!(in alloc; "{{\"id\":{id},\"jsonrpc\":\"2.0\",\"result\":null}}")?;
+    owned(alloc, body)
+}
+
+fn cleaned(alloc: Global, id: &str) -> Result<Vec<u8>, Fail> {
+    let body = format!(in alloc;
+        "{{\"id\":{id},\"jsonrpc\":\"2.0\",\"result\":{{\"cleaned\":true}}}}"
+    )?;
+    owned(alloc, body)
+}
+
+fn changed(alloc: Global, rest: &str) -> Result<Vec<u8>, Fail> {
+    let pairs = pairs_of(alloc, rest)?;
+    let mut changes = String::new(alloc);
+    for (name, kind) in pairs.as_slice() {
+        let comma = if changes.is_empty() { "" } else { "," };
+        let told = format!(in alloc;
+            "{comma}{{\"kind\":{kind},\"target\":{{\"uri\":\"file:///w/?id={name}\"}}}}"
+        )?;
+        changes.push_str(told.as_str())?;
+    }
+    let body = format!(in alloc;
+        "{{\"jsonrpc\":\"2.0\",\"method\":\"buildTarget/didChange\",\"params\":{{\"changes\":[{changes}]}}}}"
+    )?;
+    owned(alloc, body)
+}
+
+fn targets(alloc: Global, rest: &str) -> Result<Vec<u8>, Fail> {
+    let (id, rest) = parted(rest, " ")?;
+    let pairs = pairs_of(alloc, rest)?;
+    let mut targets = String::new(alloc);
+    for (name, kind) in pairs.as_slice() {
+        let comma = if targets.is_empty() { "" } else { "," };
+        let (runs, tests) = (*kind == "application", *kind == "test");
+        let told = format!(in alloc;
+            "{comma}{{\"capabilities\":{{\"canCompile\":true,\"canRun\":{runs},\"canTest\":{tests}}},\"dependencies\":[],\"displayName\":\"{name}\",\"id\":{{\"uri\":\"file:///w/?id={name}\"}},\"languageIds\":[\"oberon\"],\"tags\":[\"{kind}\"]}}"
+        )?;
+        targets.push_str(told.as_str())?;
+    }
+    let body = format!(in alloc;
+        "{{\"id\":{id},\"jsonrpc\":\"2.0\",\"result\":{{\"targets\":[{targets}]}}}}"
+    )?;
     owned(alloc, body)
 }
 

@@ -2,6 +2,8 @@
 //! their build was cancelled.
 use crate::cancels::{BETWEEN_OUTCOMES, ROW, Row, THREE, THREE_CLEAN, expect_by};
 use crate::crews::{CountingCrew, KeenCrew};
+use crate::reloads::{A, ODD_Z};
+use crate::runs::{Files, WORKSPACE_FILE};
 use std::process::Abort;
 use std::test::Fail;
 
@@ -165,7 +167,7 @@ fn gives_and_drains_jobs(rt: HostRuntime) -> Result<(), Fail> {
 }
 
 /// Sessions whose crew has begun all jobs of a build that is cancelled, and the order in which it does jobs.
-const LATE: [(Row<'static>, &[u32]); 4] = [
+const LATE: [(Row<'static>, &[u32]); 7] = [
     // What comes of them is never shown, nor taken for what comes of the next build's.
     (BEHIND_A_CANCEL, &[]),
     // The same where some of them come between those of the next build.
@@ -295,6 +297,181 @@ null 5
         },
         &[],
     ),
+    // A target is cleaned before they come: what comes of its document isn't kept, and what comes of the other's is.
+    (
+        Row {
+            files: OLD_AND_NEW,
+            sent: "
+initialize
+compile 2 app old
+cancel 2
+clean 4 app
+compile 5 new
+wait
+compile 6 app old
+wait
+shutdown 7
+exit
+",
+            told: "
+initialized
+start r2
+start r2.t1 app
+start r2.t2 old
+start r2.c1 r2.t1 A.Mod
+start r2.c2 r2.t2 Z.Mod
+finish r2.c1 r2.t1 3
+finish r2.c2 r2.t2 3
+finish r2.t1 r2 3
+finish r2.t2 r2 3
+finish r2 3
+result 2 3
+cleaned 4
+start r5
+start r5.t1 new
+start r5.c1 r5.t1 N.Mod
+finish r5.c1 r5.t1 1
+report r5.t1 new 0 0
+finish r5 1
+result 5 1
+start r6
+start r6.t1 app
+start r6.t2 old
+start r6.c1 r6.t1 A.Mod
+publish old Z.Mod; 0:14-0:15 1 endName name after END differs
+finish r6.c1 r6.t1 1
+report r6.t1 app 0 0
+report r6.t2 old 1 0 noop
+finish r6 2
+result 6 2
+null 7
+",
+            ..ROW
+        },
+        &[],
+    ),
+    // A target is gone as they come, and is back behind that.
+    (
+        Row {
+            files: OLD_AND_NEW,
+            changes: &[
+                (3, WORKSPACE_FILE, APP_AND_NEW),
+                (5, WORKSPACE_FILE, APP_OLD_AND_NEW),
+            ],
+            sent: "
+initialize
+compile 2 app old
+cancel 2
+reload 4
+compile 5 new
+wait
+reload 6
+compile 7 app old
+wait
+shutdown 8
+exit
+",
+            told: "
+initialized
+start r2
+start r2.t1 app
+start r2.t2 old
+start r2.c1 r2.t1 A.Mod
+start r2.c2 r2.t2 Z.Mod
+finish r2.c1 r2.t1 3
+finish r2.c2 r2.t2 3
+finish r2.t1 r2 3
+finish r2.t2 r2 3
+finish r2 3
+result 2 3
+changed old 3
+null 4
+start r5
+start r5.t1 new
+start r5.c1 r5.t1 N.Mod
+finish r5.c1 r5.t1 1
+report r5.t1 new 0 0
+finish r5 1
+result 5 1
+changed old 1
+null 6
+start r7
+start r7.t1 app
+start r7.t2 old
+start r7.c1 r7.t2 Z.Mod
+finish r7.c1 r7.t2 2
+publish old Z.Mod; 0:14-0:15 1 endName name after END differs
+report r7.t1 app 0 0 noop
+report r7.t2 old 1 0
+finish r7 2
+result 7 2
+null 8
+",
+            ..ROW
+        },
+        &[],
+    ),
+    // A target went and is back as they come. The reload waits behind their build, which is cancelled.
+    (
+        Row {
+            files: OLD_AND_NEW,
+            changes: &[
+                (3, WORKSPACE_FILE, APP_AND_NEW),
+                (4, WORKSPACE_FILE, APP_OLD_AND_NEW),
+            ],
+            sent: "
+initialize
+compile 2 app old
+reload 3
+reload 4
+cancel 2
+compile 6 new
+wait
+compile 7 app old
+wait
+shutdown 8
+exit
+",
+            told: "
+initialized
+start r2
+start r2.t1 app
+start r2.t2 old
+start r2.c1 r2.t1 A.Mod
+start r2.c2 r2.t2 Z.Mod
+finish r2.c1 r2.t1 3
+finish r2.c2 r2.t2 3
+finish r2.t1 r2 3
+finish r2.t2 r2 3
+finish r2 3
+result 2 3
+changed old 3
+null 3
+changed old 1
+null 4
+start r6
+start r6.t1 new
+start r6.c1 r6.t1 N.Mod
+finish r6.c1 r6.t1 1
+report r6.t1 new 0 0
+finish r6 1
+result 6 1
+start r7
+start r7.t1 app
+start r7.t2 old
+start r7.c1 r7.t2 Z.Mod
+finish r7.c1 r7.t2 2
+publish old Z.Mod; 0:14-0:15 1 endName name after END differs
+report r7.t1 app 0 0 noop
+report r7.t2 old 1 0
+finish r7 2
+result 7 2
+null 8
+",
+            ..ROW
+        },
+        &[],
+    ),
 ];
 
 const ODD: &[(&[u8], &[u8])] = &[
@@ -302,6 +479,19 @@ const ODD: &[(&[u8], &[u8])] = &[
     (b"A.Mod", b"MODULE A; END Y."),
     (b"B.Mod", b"MODULE B; END Y."),
     (b"C.Mod", b"MODULE C; END Y."),
+];
+
+const APP_OLD_AND_NEW: &[u8] =
+    b"{\"version\":1,\"targets\":[{\"name\":\"app\",\"kind\":\"application\",\"modules\":[\"A.Mod\"],\"main\":\"A\"},{\"name\":\"old\",\"kind\":\"library\",\"modules\":[\"Z.Mod\"]},{\"name\":\"new\",\"kind\":\"library\",\"modules\":[\"N.Mod\"]}]}";
+
+const APP_AND_NEW: &[u8] =
+    b"{\"version\":1,\"targets\":[{\"name\":\"app\",\"kind\":\"application\",\"modules\":[\"A.Mod\"],\"main\":\"A\"},{\"name\":\"new\",\"kind\":\"library\",\"modules\":[\"N.Mod\"]}]}";
+
+const OLD_AND_NEW: Files<'static> = &[
+    (WORKSPACE_FILE, APP_OLD_AND_NEW),
+    A,
+    ODD_Z,
+    (b"N.Mod", b"MODULE N; END N."),
 ];
 
 /// A build behind one that is cancelled when one of its three outcomes is there.

@@ -1,0 +1,187 @@
+//! Sessions with reloads that change nothing: the file is refused, can't be read, or says the same.
+use crate::cancels::{ROW, Row, expect_longer};
+use crate::reloads::{BUILT, Behind, expect_behind};
+use crate::runs::WORKSPACE_FILE;
+use std::alloc::Global;
+use std::process::Abort;
+use std::test::Fail;
+
+/// The two targets in other words: members in another order, ones that say nothing, and blanks.
+const SAME_IN_OTHER_WORDS: &[u8] =
+    b"{\"targets\":[{\"main\":\"A\",\"modules\":[\"A.Mod\"],\"dependencies\":[],\"note\":[1],\"kind\":\"application\",\"name\":\"app\"},\n {\"name\":\"old\",\"main\":\"Q\",\"kind\":\"library\",\"modules\":[ \"Z.Mod\" ]}],\"version\":1,\"more\":{}}\n";
+
+/// Reloads that change nothing.
+const NOTHING_CHANGES: &[Behind] = &[
+    // A file that is no JSON, one that isn't there, one of another version, and a folder that fails.
+    (
+        Row {
+            changes: &[
+                (3, WORKSPACE_FILE, b"{"),
+                (5, WORKSPACE_FILE, b"{\"version\":2,\"targets\":[]}"),
+            ],
+            gone: &[(4, WORKSPACE_FILE)],
+            unread: &[6],
+            ..BUILT
+        },
+        "
+reload 3
+targets 4
+reload 5
+reload 6
+reload 7
+targets 8
+compile 9 app old
+wait
+shutdown 10
+exit
+",
+        "
+error 3 -32010 workspace refused: BadJson
+targets 4 app application old library
+error 5 -32010 workspace refused: NoFile
+error 6 -32010 workspace refused: BadField version
+error 7 -32603 sources unreadable
+targets 8 app application old library
+start r9
+start r9.t1 app
+start r9.t2 old
+report r9.t1 app 0 0 noop
+report r9.t2 old 1 0 noop
+finish r9 2
+result 9 2
+null 10
+",
+    ),
+    // A file that says the same. The main module of a library doesn't count.
+    (
+        Row {
+            changes: &[(3, WORKSPACE_FILE, SAME_IN_OTHER_WORDS)],
+            ..BUILT
+        },
+        "
+reload 3
+targets 4
+compile 5 app old
+shutdown 6
+exit
+",
+        "
+null 3
+targets 4 app application old library
+start r5
+start r5.t1 app
+start r5.t2 old
+report r5.t1 app 0 0 noop
+report r5.t2 old 1 0 noop
+finish r5 2
+result 5 2
+null 6
+",
+    ),
+];
+
+/// How many bytes a file has at least, its targets, the modules of the first, and what a reload that finds it answers.
+const SIZES: [(usize, usize, usize, &str); 4] = [
+    (262_144, 1, 1, "null 3"),
+    (262_145, 1, 1, "error 3 -32010 workspace refused: NoFile"),
+    (
+        0,
+        257,
+        1,
+        "error 3 -32010 workspace refused: TooMany targets",
+    ),
+    (
+        0,
+        1,
+        1_025,
+        "error 3 -32010 workspace refused: TooMany modules",
+    ),
+];
+
+/// A file of so many targets, of which the first has so many modules. Blanks fill it up.
+fn file_of(alloc: Global, bytes: usize, targets: usize, modules: usize) -> Result<String, Fail> {
+    let mut text = String::from_str(
+        alloc,
+        "{\"version\":1,\"targets\":[{\"name\":\"app\",\"kind\":\"application\",\"main\":\"A\",\"modules\":[\"A.Mod\"",
+    )?;
+    for number in 1..modules {
+        let path = format!(in alloc; ",\"M{number}.Mod\"")?;
+        text.push_str(path.as_str())?;
+    }
+    text.push_str("]}")?;
+    for number in 1..targets {
+        let target = format!(in alloc;
+            ",{{\"name\":\"t{number}\",\"kind\":\"library\",\"modules\":[]}}"
+        )?;
+        text.push_str(target.as_str())?;
+    }
+    text.push_str("]}")?;
+    for _ in text.len()..bytes {
+        text.push(' ')?;
+    }
+    Ok(text)
+}
+
+const BUILT_ALONE: Row<'static> = Row {
+    sent: "
+initialize
+compile 2 app
+wait
+reload 3
+",
+    told: "
+initialized
+start r2
+start r2.t1 app
+start r2.c1 r2.t1 A.Mod
+finish r2.c1 r2.t1 1
+report r2.t1 app 0 0
+finish r2 1
+result 2 1
+",
+    ..ROW
+};
+
+/// Whether a reload that finds this file behind what was built answers so. Either way the workspace stays as it was.
+fn expect_file(
+    rt: &(impl Abort + AllocGlobal),
+    built: &Row<'_>,
+    text: &str,
+    answer: &str,
+) -> Result<(), Fail> {
+    let told = format!(in rt.alloc();
+        "{answer}
+targets 4 app application
+start r5
+start r5.t1 app
+report r5.t1 app 0 0 noop
+finish r5 1
+result 5 1
+null 6
+"
+    )?;
+    let row = Row {
+        changes: &[(3, WORKSPACE_FILE, text.as_bytes())],
+        ..*built
+    };
+    expect_longer(
+        rt,
+        &row,
+        "targets 4\ncompile 5 app\nshutdown 6\nexit\n",
+        told.as_str(),
+    )
+}
+
+#[test]
+fn reloads_within_limits(rt: HostRuntime) -> Result<(), Fail> {
+    for (bytes, targets, modules, answer) in SIZES {
+        let text = file_of(rt.alloc(), bytes, targets, modules)?;
+        expect_file(&rt, &BUILT_ALONE, text.as_str(), answer)?;
+    }
+    Ok(())
+}
+
+#[test]
+fn changes_nothing(rt: HostRuntime) -> Result<(), Fail> {
+    expect_behind(&rt, NOTHING_CHANGES)
+}
