@@ -3,10 +3,19 @@ use ob_text::Span;
 
 /// `expr = simple [relator simple]` (The Programming Language Oberon-07, section 8.2).
 #[cycle(expression)]
-#[derive(Drop)]
 pub struct Expr {
     pub left: Simple,
     pub relation: Option<Box<Relation>>,
+}
+
+impl Drop for Expr {
+    #[cycle(expression)]
+    fn drop(self) {
+        let Self {
+            left: _,
+            relation: _,
+        } = self;
+    }
 }
 
 /// The operator and the right side of a relation.
@@ -33,11 +42,21 @@ pub enum Relator {
 
 /// `simple = ["+" | "-"] term {addoperator term}`.
 #[cycle(expression)]
-#[derive(Drop)]
 pub struct Simple {
     pub sign: Option<Signed>,
     pub first: Term,
     pub rest: Vec<Addend>,
+}
+
+impl Drop for Simple {
+    #[cycle(expression)]
+    fn drop(self) {
+        let Self {
+            sign: _,
+            first: _,
+            rest: _,
+        } = self;
+    }
 }
 
 /// A sign and its span.
@@ -73,10 +92,16 @@ pub enum AddOperator {
 
 /// `term = factor {muloperator factor}`.
 #[cycle(expression)]
-#[derive(Drop)]
 pub struct Term {
     pub first: Factor,
     pub rest: Vec<Multiplier>,
+}
+
+impl Drop for Term {
+    #[cycle(expression)]
+    fn drop(self) {
+        let Self { first: _, rest: _ } = self;
+    }
 }
 
 /// `muloperator factor`.
@@ -100,7 +125,6 @@ pub enum MulOperator {
 
 /// `factor = integer | string | TRUE | FALSE | set | designator | "(" expr ")" | "~" factor`.
 #[cycle(expression)]
-#[derive(Drop)]
 pub enum Factor {
     Integer(IntegerLiteral),
     Str(StringLiteral),
@@ -119,6 +143,29 @@ pub enum Factor {
     },
 }
 
+impl Drop for Factor {
+    #[cycle(expression)]
+    fn drop(self) {
+        match self {
+            Self::Integer(_) => {}
+            Self::Str(_) => {}
+            Self::True(_) => {}
+            Self::False(_) => {}
+            Self::Set(_) => {}
+            Self::Designator(_) => {}
+            Self::Group {
+                opening: _,
+                inner: _,
+                closing: _,
+            } => {}
+            Self::Not {
+                tilde: _,
+                factor: _,
+            } => {}
+        }
+    }
+}
+
 /// `set = "{" [element {"," element}] "}"`.
 #[cycle(expression)]
 #[derive(Drop)]
@@ -130,10 +177,16 @@ pub struct Set {
 
 /// `element {"," element}`.
 #[cycle(expression)]
-#[derive(Drop)]
 pub struct Elements {
     pub first: Element,
     pub rest: Vec<NextElement>,
+}
+
+impl Drop for Elements {
+    #[cycle(expression)]
+    fn drop(self) {
+        let Self { first: _, rest: _ } = self;
+    }
 }
 
 /// `"," element`.
@@ -146,10 +199,16 @@ pub struct NextElement {
 
 /// `element = expr [".." expr]`.
 #[cycle(expression)]
-#[derive(Drop)]
 pub struct Element {
     pub first: Expr,
     pub upper: Option<Upper>,
+}
+
+impl Drop for Element {
+    #[cycle(expression)]
+    fn drop(self) {
+        let Self { first: _, upper: _ } = self;
+    }
 }
 
 /// `".." expr`.
@@ -162,10 +221,19 @@ pub struct Upper {
 
 /// `designator = ident {selector}` (section 8.1).
 #[cycle(expression)]
-#[derive(Drop)]
 pub struct Designator {
     pub name: Ident,
     pub selectors: Vec<Selector>,
+}
+
+impl Drop for Designator {
+    #[cycle(expression)]
+    fn drop(self) {
+        let Self {
+            name: _,
+            selectors: _,
+        } = self;
+    }
 }
 
 /// `"." ident | "[" exprs "]" | "(" [exprs] ")"`. A call and a type guard have one form.
@@ -187,10 +255,16 @@ pub enum Selector {
 
 /// `exprs = expr {"," expr}`.
 #[cycle(expression)]
-#[derive(Drop)]
 pub struct Exprs {
     pub first: Expr,
     pub rest: Vec<NextExpr>,
+}
+
+impl Drop for Exprs {
+    #[cycle(expression)]
+    fn drop(self) {
+        let Self { first: _, rest: _ } = self;
+    }
 }
 
 /// `"," expr`.

@@ -22,10 +22,18 @@ pub struct StringLiteral {
 }
 
 /// `qualident = ident ["." ident]` (section 4).
-#[derive(Drop)]
 pub struct Qualident {
     pub first: Ident,
     pub member: Option<Member>,
+}
+
+impl Drop for Qualident {
+    fn drop(self) {
+        let Self {
+            first: _,
+            member: _,
+        } = self;
+    }
 }
 
 /// `"." ident`, in a qualident or a designator.
@@ -43,10 +51,15 @@ pub struct IdentDef {
 }
 
 /// `identlist = identdef {"," identdef}` (section 6).
-#[derive(Drop)]
 pub struct IdentDefs {
     pub first: IdentDef,
     pub rest: Vec<NextIdentDef>,
+}
+
+impl Drop for IdentDefs {
+    fn drop(self) {
+        let Self { first: _, rest: _ } = self;
+    }
 }
 
 /// `"," identdef`.
@@ -57,10 +70,15 @@ pub struct NextIdentDef {
 }
 
 /// `ident {"," ident}`.
-#[derive(Drop)]
 pub struct Idents {
     pub first: Ident,
     pub rest: Vec<NextIdent>,
+}
+
+impl Drop for Idents {
+    fn drop(self) {
+        let Self { first: _, rest: _ } = self;
+    }
 }
 
 /// `"," ident`.

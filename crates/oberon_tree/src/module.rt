@@ -6,7 +6,6 @@ use ob_text::Span;
 
 /// `MODULE ident ";" [imports] decls {procedure ";"} [BEGIN stmts] END ident "."`
 /// (The Programming Language Oberon-07, section 11).
-#[derive(Drop)]
 pub struct Module {
     pub word: Span,
     pub name: Ident,
@@ -20,13 +19,40 @@ pub struct Module {
     pub period: Span,
 }
 
+impl Drop for Module {
+    fn drop(self) {
+        let Self {
+            word: _,
+            name: _,
+            semicolon: _,
+            imports: _,
+            declarations: _,
+            procedures: _,
+            body: _,
+            end: _,
+            end_name: _,
+            period: _,
+        } = self;
+    }
+}
+
 /// `IMPORT import {"," import} ";"`.
-#[derive(Drop)]
 pub struct Imports {
     pub word: Span,
     pub first: Import,
     pub rest: Vec<NextImport>,
     pub semicolon: Span,
+}
+
+impl Drop for Imports {
+    fn drop(self) {
+        let Self {
+            word: _,
+            first: _,
+            rest: _,
+            semicolon: _,
+        } = self;
+    }
 }
 
 /// `"," import`.
@@ -37,10 +63,15 @@ pub struct NextImport {
 }
 
 /// `import = ident [":=" ident]`. The local name comes first.
-#[derive(Drop)]
 pub struct Import {
     pub name: Ident,
     pub alias: Option<Alias>,
+}
+
+impl Drop for Import {
+    fn drop(self) {
+        let Self { name: _, alias: _ } = self;
+    }
 }
 
 /// `":=" ident`, the imported module's own name.
@@ -51,11 +82,20 @@ pub struct Alias {
 }
 
 /// `decls = [constants] [types] [variables]` (sections 5 to 7).
-#[derive(Drop)]
 pub struct Declarations {
     pub constants: Option<Constants>,
     pub types: Option<Types>,
     pub variables: Option<Variables>,
+}
+
+impl Drop for Declarations {
+    fn drop(self) {
+        let Self {
+            constants: _,
+            types: _,
+            variables: _,
+        } = self;
+    }
 }
 
 /// `CONST {constant}`.
@@ -66,12 +106,22 @@ pub struct Constants {
 }
 
 /// `identdef "=" expr ";"` (section 5).
-#[derive(Drop)]
 pub struct Constant {
     pub name: IdentDef,
     pub equal: Span,
     pub value: Expr,
     pub semicolon: Span,
+}
+
+impl Drop for Constant {
+    fn drop(self) {
+        let Self {
+            name: _,
+            equal: _,
+            value: _,
+            semicolon: _,
+        } = self;
+    }
 }
 
 /// `TYPE {typedeclaration}`.
@@ -82,12 +132,22 @@ pub struct Types {
 }
 
 /// `identdef "=" type ";"` (section 6).
-#[derive(Drop)]
 pub struct TypeDeclaration {
     pub name: IdentDef,
     pub equal: Span,
     pub of_type: Type,
     pub semicolon: Span,
+}
+
+impl Drop for TypeDeclaration {
+    fn drop(self) {
+        let Self {
+            name: _,
+            equal: _,
+            of_type: _,
+            semicolon: _,
+        } = self;
+    }
 }
 
 /// `VAR {variable}`.
@@ -98,7 +158,6 @@ pub struct Variables {
 }
 
 /// `identlist ":" type ";"` (section 7).
-#[derive(Drop)]
 pub struct Variable {
     pub names: IdentDefs,
     pub colon: Span,
@@ -106,11 +165,30 @@ pub struct Variable {
     pub semicolon: Span,
 }
 
+impl Drop for Variable {
+    fn drop(self) {
+        let Self {
+            names: _,
+            colon: _,
+            of_type: _,
+            semicolon: _,
+        } = self;
+    }
+}
+
 /// `locals = [localconstants] [localvariables]`.
-#[derive(Drop)]
 pub struct Locals {
     pub constants: Option<LocalConstants>,
     pub variables: Option<LocalVariables>,
+}
+
+impl Drop for Locals {
+    fn drop(self) {
+        let Self {
+            constants: _,
+            variables: _,
+        } = self;
+    }
 }
 
 /// `CONST {localconstant}`.
@@ -121,12 +199,22 @@ pub struct LocalConstants {
 }
 
 /// `ident "=" expr ";"`.
-#[derive(Drop)]
 pub struct LocalConstant {
     pub name: Ident,
     pub equal: Span,
     pub value: Expr,
     pub semicolon: Span,
+}
+
+impl Drop for LocalConstant {
+    fn drop(self) {
+        let Self {
+            name: _,
+            equal: _,
+            value: _,
+            semicolon: _,
+        } = self;
+    }
 }
 
 /// `VAR {localvariable}`.
@@ -137,12 +225,22 @@ pub struct LocalVariables {
 }
 
 /// `ident {"," ident} ":" type ";"`.
-#[derive(Drop)]
 pub struct LocalVariable {
     pub names: Idents,
     pub colon: Span,
     pub of_type: Type,
     pub semicolon: Span,
+}
+
+impl Drop for LocalVariable {
+    fn drop(self) {
+        let Self {
+            names: _,
+            colon: _,
+            of_type: _,
+            semicolon: _,
+        } = self;
+    }
 }
 
 /// A procedure and the `";"` behind it.
@@ -153,7 +251,6 @@ pub struct ProcedureItem {
 }
 
 /// `PROCEDURE identdef [formals] ";" locals [BEGIN stmts] [RETURN expr] END ident` (section 10).
-#[derive(Drop)]
 pub struct Procedure {
     pub word: Span,
     pub name: IdentDef,
@@ -166,8 +263,23 @@ pub struct Procedure {
     pub end_name: Ident,
 }
 
+impl Drop for Procedure {
+    fn drop(self) {
+        let Self {
+            word: _,
+            name: _,
+            formals: _,
+            semicolon: _,
+            locals: _,
+            body: _,
+            returns: _,
+            end: _,
+            end_name: _,
+        } = self;
+    }
+}
+
 /// `formals = "(" [section {";" section}] ")" [":" qualident]` (section 10.1).
-#[derive(Drop)]
 pub struct Formals {
     pub opening: Span,
     pub sections: Option<Sections>,
@@ -175,11 +287,27 @@ pub struct Formals {
     pub result_type: Option<ResultType>,
 }
 
+impl Drop for Formals {
+    fn drop(self) {
+        let Self {
+            opening: _,
+            sections: _,
+            closing: _,
+            result_type: _,
+        } = self;
+    }
+}
+
 /// `section {";" section}`.
-#[derive(Drop)]
 pub struct Sections {
     pub first: Section,
     pub rest: Vec<NextSection>,
+}
+
+impl Drop for Sections {
+    fn drop(self) {
+        let Self { first: _, rest: _ } = self;
+    }
 }
 
 /// `";" section`.
@@ -190,7 +318,6 @@ pub struct NextSection {
 }
 
 /// `section = [VAR] ident {"," ident} ":" {ARRAY OF} qualident`.
-#[derive(Drop)]
 pub struct Section {
     pub by_var: Option<Span>,
     pub names: Idents,
@@ -198,11 +325,27 @@ pub struct Section {
     pub of_type: FormalType,
 }
 
+impl Drop for Section {
+    fn drop(self) {
+        let Self {
+            by_var: _,
+            names: _,
+            colon: _,
+            of_type: _,
+        } = self;
+    }
+}
+
 /// `{ARRAY OF} qualident`.
-#[derive(Drop)]
 pub struct FormalType {
     pub opens: Vec<OpenArray>,
     pub name: Qualident,
+}
+
+impl Drop for FormalType {
+    fn drop(self) {
+        let Self { opens: _, name: _ } = self;
+    }
 }
 
 /// `ARRAY OF`, without a length.

@@ -4,10 +4,16 @@ use ob_text::Span;
 
 /// `stmts = stmt {";" stmt}` (The Programming Language Oberon-07, section 9.3).
 #[cycle(statement)]
-#[derive(Drop)]
 pub struct Statements {
     pub first: Statement,
     pub rest: Vec<NextStatement>,
+}
+
+impl Drop for Statements {
+    #[cycle(statement)]
+    fn drop(self) {
+        let Self { first: _, rest: _ } = self;
+    }
 }
 
 /// `";" stmt`.
@@ -20,7 +26,6 @@ pub struct NextStatement {
 
 /// `stmt = [assignment | call | if | case | while | repeat | for]` (section 9).
 #[cycle(statement)]
-#[derive(Drop)]
 pub enum Statement {
     Empty,
     Assignment(Box<Assignment>),
@@ -32,17 +37,41 @@ pub enum Statement {
     For(Box<For>),
 }
 
+impl Drop for Statement {
+    #[cycle(statement)]
+    fn drop(self) {
+        match self {
+            Self::Empty => {}
+            Self::Assignment(_) => {}
+            Self::Call(_) => {}
+            Self::If(_) => {}
+            Self::Case(_) => {}
+            Self::While(_) => {}
+            Self::Repeat(_) => {}
+            Self::For(_) => {}
+        }
+    }
+}
+
 /// `designator ":=" expr` (section 9.1).
-#[derive(Drop)]
 pub struct Assignment {
     pub designator: Designator,
     pub becomes: Span,
     pub value: Expr,
 }
 
+impl Drop for Assignment {
+    fn drop(self) {
+        let Self {
+            designator: _,
+            becomes: _,
+            value: _,
+        } = self;
+    }
+}
+
 /// `IF expr THEN stmts {ELSIF expr THEN stmts} [ELSE stmts] END` (section 9.4).
 #[cycle(statement)]
-#[derive(Drop)]
 pub struct If {
     pub first: Guarded,
     pub rest: Vec<Guarded>,
@@ -50,15 +79,38 @@ pub struct If {
     pub end: Span,
 }
 
+impl Drop for If {
+    #[cycle(statement)]
+    fn drop(self) {
+        let Self {
+            first: _,
+            rest: _,
+            otherwise: _,
+            end: _,
+        } = self;
+    }
+}
+
 /// A condition between two words, the second THEN or DO, and the statements that it guards: an arm of
 /// IF or of WHILE.
 #[cycle(statement)]
-#[derive(Drop)]
 pub struct Guarded {
     pub word: Span,
     pub condition: Expr,
     pub body_word: Span,
     pub body: Statements,
+}
+
+impl Drop for Guarded {
+    #[cycle(statement)]
+    fn drop(self) {
+        let Self {
+            word: _,
+            condition: _,
+            body_word: _,
+            body: _,
+        } = self;
+    }
 }
 
 /// `ELSE stmts`.
@@ -71,7 +123,6 @@ pub struct ElsePart {
 
 /// `CASE expr OF arm {"|" arm} END` (section 9.5).
 #[cycle(statement)]
-#[derive(Drop)]
 pub struct Case {
     pub word: Span,
     pub value: Expr,
@@ -79,6 +130,20 @@ pub struct Case {
     pub first: Arm,
     pub rest: Vec<NextArm>,
     pub end: Span,
+}
+
+impl Drop for Case {
+    #[cycle(statement)]
+    fn drop(self) {
+        let Self {
+            word: _,
+            value: _,
+            of: _,
+            first: _,
+            rest: _,
+            end: _,
+        } = self;
+    }
 }
 
 /// `"|" arm`.
@@ -91,7 +156,6 @@ pub struct NextArm {
 
 /// `arm = [label {"," label} ":" stmts]`.
 #[cycle(statement)]
-#[derive(Drop)]
 pub enum Arm {
     Empty,
     Labelled {
@@ -101,11 +165,30 @@ pub enum Arm {
     },
 }
 
+impl Drop for Arm {
+    #[cycle(statement)]
+    fn drop(self) {
+        match self {
+            Self::Empty => {}
+            Self::Labelled {
+                labels: _,
+                colon: _,
+                body: _,
+            } => {}
+        }
+    }
+}
+
 /// `label {"," label}`.
-#[derive(Drop)]
 pub struct Labels {
     pub first: Label,
     pub rest: Vec<NextLabel>,
+}
+
+impl Drop for Labels {
+    fn drop(self) {
+        let Self { first: _, rest: _ } = self;
+    }
 }
 
 /// `"," label`.
@@ -116,10 +199,15 @@ pub struct NextLabel {
 }
 
 /// `label = value [".." value]`.
-#[derive(Drop)]
 pub struct Label {
     pub first: LabelValue,
     pub upper: Option<LabelUpper>,
+}
+
+impl Drop for Label {
+    fn drop(self) {
+        let Self { first: _, upper: _ } = self;
+    }
 }
 
 /// `".." value`.
@@ -130,25 +218,43 @@ pub struct LabelUpper {
 }
 
 /// `value = integer | string | qualident`.
-#[derive(Drop)]
 pub enum LabelValue {
     Integer(IntegerLiteral),
     Str(StringLiteral),
     Named(Qualident),
 }
 
+impl Drop for LabelValue {
+    fn drop(self) {
+        match self {
+            Self::Integer(_) => {}
+            Self::Str(_) => {}
+            Self::Named(_) => {}
+        }
+    }
+}
+
 /// `WHILE expr DO stmts {ELSIF expr DO stmts} END` (section 9.6).
 #[cycle(statement)]
-#[derive(Drop)]
 pub struct While {
     pub first: Guarded,
     pub rest: Vec<Guarded>,
     pub end: Span,
 }
 
+impl Drop for While {
+    #[cycle(statement)]
+    fn drop(self) {
+        let Self {
+            first: _,
+            rest: _,
+            end: _,
+        } = self;
+    }
+}
+
 /// `REPEAT stmts UNTIL expr` (section 9.7).
 #[cycle(statement)]
-#[derive(Drop)]
 pub struct Repeat {
     pub word: Span,
     pub body: Statements,
@@ -156,9 +262,20 @@ pub struct Repeat {
     pub condition: Expr,
 }
 
+impl Drop for Repeat {
+    #[cycle(statement)]
+    fn drop(self) {
+        let Self {
+            word: _,
+            body: _,
+            until: _,
+            condition: _,
+        } = self;
+    }
+}
+
 /// `FOR ident ":=" expr TO expr [BY expr] DO stmts END` (section 9.8).
 #[cycle(statement)]
-#[derive(Drop)]
 pub struct For {
     pub word: Span,
     pub variable: Ident,
@@ -170,6 +287,24 @@ pub struct For {
     pub body_word: Span,
     pub body: Statements,
     pub end: Span,
+}
+
+impl Drop for For {
+    #[cycle(statement)]
+    fn drop(self) {
+        let Self {
+            word: _,
+            variable: _,
+            becomes: _,
+            from: _,
+            to_word: _,
+            limit: _,
+            step: _,
+            body_word: _,
+            body: _,
+            end: _,
+        } = self;
+    }
 }
 
 /// `BY expr`.

@@ -7,9 +7,14 @@ use std::alloc::Global;
 use std::sync::Arc;
 
 /// The syntax tree of a module. It never changes, so its copies share it.
-#[derive(Drop)]
 pub struct Tree {
     root: Arc<Module>,
+}
+
+impl Drop for Tree {
+    fn drop(self) {
+        let Self { root: _ } = self;
+    }
 }
 
 impl Tree {

@@ -4,16 +4,25 @@ use ob_text::Span;
 
 /// `type = qualident | array | record` (The Programming Language Oberon-07, section 6).
 #[cycle(type_tree)]
-#[derive(Drop)]
 pub enum Type {
     Named(Qualident),
     Array(Box<ArrayType>),
     Record(Box<RecordType>),
 }
 
+impl Drop for Type {
+    #[cycle(type_tree)]
+    fn drop(self) {
+        match self {
+            Self::Named(_) => {}
+            Self::Array(_) => {}
+            Self::Record(_) => {}
+        }
+    }
+}
+
 /// `ARRAY expr {"," expr} OF type` (section 6.2).
 #[cycle(type_tree)]
-#[derive(Drop)]
 pub struct ArrayType {
     pub word: Span,
     pub lengths: Exprs,
@@ -21,14 +30,37 @@ pub struct ArrayType {
     pub element: Type,
 }
 
+impl Drop for ArrayType {
+    #[cycle(type_tree)]
+    fn drop(self) {
+        let Self {
+            word: _,
+            lengths: _,
+            of: _,
+            element: _,
+        } = self;
+    }
+}
+
 /// `RECORD ["(" qualident ")"] [fields {";" fields}] END` (section 6.3).
 #[cycle(type_tree)]
-#[derive(Drop)]
 pub struct RecordType {
     pub word: Span,
     pub base: Option<Base>,
     pub fields: Option<FieldLists>,
     pub end: Span,
+}
+
+impl Drop for RecordType {
+    #[cycle(type_tree)]
+    fn drop(self) {
+        let Self {
+            word: _,
+            base: _,
+            fields: _,
+            end: _,
+        } = self;
+    }
 }
 
 /// `"(" qualident ")"`.
@@ -41,10 +73,16 @@ pub struct Base {
 
 /// `fields {";" fields}`.
 #[cycle(type_tree)]
-#[derive(Drop)]
 pub struct FieldLists {
     pub first: Fields,
     pub rest: Vec<NextFields>,
+}
+
+impl Drop for FieldLists {
+    #[cycle(type_tree)]
+    fn drop(self) {
+        let Self { first: _, rest: _ } = self;
+    }
 }
 
 /// `";" fields`.
@@ -57,9 +95,19 @@ pub struct NextFields {
 
 /// `fields = identlist ":" type`.
 #[cycle(type_tree)]
-#[derive(Drop)]
 pub struct Fields {
     pub names: IdentDefs,
     pub colon: Span,
     pub of_type: Type,
+}
+
+impl Drop for Fields {
+    #[cycle(type_tree)]
+    fn drop(self) {
+        let Self {
+            names: _,
+            colon: _,
+            of_type: _,
+        } = self;
+    }
 }
