@@ -1,10 +1,12 @@
-ghost use Rattle.std.specs.Prelude.{◌≡◌, ◌<◌, None, ℕ, OnOk, OnErr, IfOk, IfSome, map};
+ghost use Rattle.std.specs.Prelude.{◌≡◌, ◌<◌, ◌++◌, ◌∷◌, [], None, Some, ℕ, OnOk, OnErr, IfOk, IfSome, map};
 ghost use Rattle.std.specs.List.{All};
 ghost use Rattle.bsp_records.specs.Limits.{origin_limit};
 ghost use Rattle.json_shape.specs.Shapes.{IsTextWithin};
 ghost use Rattle.ob_text.specs.Held.{IsReadable};
 ghost use Rattle.rpc_peer.specs.Said.{IsId};
 ghost use Rattle.session_build.specs.Outgoing.{outgoing_said};
+ghost use Rattle.session_law.specs.Builds.{build_said};
+ghost use Rattle.session_core.specs.State.{said_out};
 ghost use Rattle.session_core.specs.Building.{BeginsBy, GoesOnBy};
 ghost use Rattle.session_core.specs.Moving.{StaysBare};
 ghost use Rattle.session_core.specs.Handing.{HasWent};
@@ -124,23 +126,53 @@ impl Core {
         ensures status { self.new.status ≡ self.old.status }
     {
         match went {
-            Went::On(build) => {
-                self.tell(told)?;
-                self.head = Some(Head {
+            Went::On(build) => self.wait_with(
+                Head {
                     id,
                     number,
                     cancelled: false,
                     phase: Phase::Built(build, origin),
-                });
-                Ok(())
-            }
+                },
+                told,
+            ),
             Went::Ended { failed, remains } => {
                 self.remains = Some(remains);
-                let mut told = told;
-                told.push_back(Outgoing::Message(compiled(self.alloc, id, &origin, failed)?))?;
-                self.tell(told)
+                self.answer_behind(id, &origin, failed, told)
             }
         }
+    }
+
+    // Lets a build wait at the head, behind what it told.
+    fn wait_with(&mut self, head: Head, told: VecDeque<Outgoing>) -> Result<(), NoMemory>
+        ensures same { OnOk result (self.new ≡ record self.old { out = self.new.out; head = Some head }) }
+        ensures said { OnOk result (said_out self.new ≡ said_out self.old ++ map outgoing_said told.items) }
+        ensures err { OnErr result (self.new.out.items ≡ self.old.out.items) }
+        ensures queue { self.new.queue ≡ self.old.queue }
+        ensures given { self.new.given ≡ self.old.given }
+        ensures status { self.new.status ≡ self.old.status }
+    {
+        self.tell(told)?;
+        self.head = Some(head);
+        Ok(())
+    }
+
+    // Answers a build that ended, behind what it told.
+    fn answer_behind(
+        &mut self,
+        id: Id,
+        origin: &Option<Text>,
+        failed: bool,
+        told: VecDeque<Outgoing>,
+    ) -> Result<(), NoMemory>
+        requires short { IfSome origin.now (IsTextWithin origin_limit) }
+        ensures said { OnOk result (said_out self.new ≡ said_out self.old ++ (map outgoing_said told.items ++ build_said id origin.now failed ∷ [])) }
+        ensures same { self.new ≡ record self.old { out = self.new.out } }
+        ensures err { OnErr result (self.new.out.items ≡ self.old.out.items) }
+    {
+        let answer = compiled(self.alloc, id, origin, failed)?;
+        let mut told = told;
+        told.push_back(Outgoing::Message(answer))?;
+        self.tell(told)
     }
 }
 

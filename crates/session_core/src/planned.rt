@@ -4,11 +4,20 @@ use std::marker::Model;
 
 /// A build before its documents are handed out: the targets asked for, by their index in the workspace file,
 /// the `originId` that was sent with it, and its documents.
-#[derive(Drop)]
 pub struct Planned {
     asked: Items<u32>,
     origin: Option<Text>,
     documents: Items<BuildDocument>,
+}
+
+impl Drop for Planned {
+    fn drop(self) {
+        let Self {
+            asked: _,
+            origin: _,
+            documents: _,
+        } = self;
+    }
 }
 
 impl Model for Planned {

@@ -1,4 +1,9 @@
-ghost use Rattle.std.specs.Prelude.{◌≡◌, ◌<◌, Some, All, length, IfErr, IfOk, IsSome, OnOk, OnErr};
+ghost use Rattle.std.specs.Prelude.{◌≡◌, ◌<◌, [], Some, All, length, map, IfErr, IfOk, IsSome, OnOk, OnErr};
+ghost use Rattle.reload_messages.specs.Told.{HasTold};
+ghost use Rattle.session_build.specs.Cleaning.{HasReloaded};
+ghost use Rattle.session_build.specs.Outgoing.{outgoing_said};
+ghost use Rattle.session_law.specs.Verdicts.{IsBare};
+ghost use Rattle.task_stream.specs.Showing.{shows};
 ghost use Rattle.rpc_peer.specs.Said.{IsId};
 ghost use Rattle.session_core.specs.Judging.{IsSaid};
 ghost use Rattle.session_core.specs.Moving.{StaysBare};
@@ -83,27 +88,39 @@ impl Core {
         ensures force { OnOk result (IsSome self.new.workspace) }
         ensures err { OnErr result (self.new.out.items ≡ self.old.out.items) }
     {
-        let Some(force) = &self.workspace else {
-            unreachable!()
-        };
-        let old = force.get();
-        let parted = part_pairs(self.alloc, old, &workspace)?;
-        let gone = parted.dropped.as_slice();
-        let mut told = VecDeque::new(self.alloc);
-        tell_reload(
-            self.alloc,
-            old,
-            &workspace,
-            gone,
-            &mut self.shown,
-            &mut told,
-        )?;
+        let mut told = self.told_of(&workspace)?;
         told.push_back(Outgoing::Message(null_answer(id)))?;
-        self.kept.reload(old, &workspace, parted.kept.as_slice())?;
         let next = InForce::of(self.alloc, workspace)?;
         self.tell(told)?;
         self.workspace = Some(next);
         Ok(())
+    }
+
+    // What a change to this workspace tells, and forgets what is kept of the documents that go.
+    fn told_of(&mut self, workspace: &Workspace) -> Result<VecDeque<Outgoing>, NoMemory>
+        requires begun { IsSome self.old.workspace }
+        requires root { (space : Space) → self.old.workspace ≡ Some space → space.root ≡ workspace.now.root }
+        ensures told { IfOk result (λ told. (space : Space) → self.old.workspace ≡ Some space → HasTold space workspace.now (shows self.old.shown) (shows self.new.shown) [] (map outgoing_said told.items)) }
+        ensures bare { IfOk result (λ told. All IsBare (map outgoing_said told.items)) }
+        ensures kept { OnOk result ((space : Space) → self.old.workspace ≡ Some space → HasReloaded space workspace.now self.old.kept self.new.kept) }
+        ensures same { self.new ≡ record self.old { shown = self.new.shown; kept = self.new.kept } }
+    {
+        let Some(force) = &self.workspace else {
+            unreachable!()
+        };
+        let old = force.get();
+        let parted = part_pairs(self.alloc, old, workspace)?;
+        let mut told = VecDeque::new(self.alloc);
+        tell_reload(
+            self.alloc,
+            old,
+            workspace,
+            parted.dropped.as_slice(),
+            &mut self.shown,
+            &mut told,
+        )?;
+        self.kept.reload(old, workspace, parted.kept.as_slice())?;
+        Ok(told)
     }
 }
 

@@ -16,7 +16,6 @@ use worker_pool::Outcome;
 /// A session of the server. Its events come in by `message`, `snapshot`, `outcome` and `end`, what it writes is
 /// taken by `next_out`, and what it needs by `next_need`. Once a call found no memory, each later one
 /// answers so too.
-#[derive(Drop)]
 pub struct Core {
     pub(crate) alloc: Global,
     pub(crate) out: VecDeque<Outgoing>,
@@ -45,6 +44,29 @@ pub struct Core {
     pub(crate) jobs: u64,
     pub(crate) given: u64,
     pub(crate) dead: bool,
+}
+
+impl Drop for Core {
+    fn drop(self) {
+        let Self {
+            alloc: _,
+            out: _,
+            workspace: _,
+            closed: _,
+            status: _,
+            shown: _,
+            taken: _,
+            kept: _,
+            head: _,
+            queue: _,
+            tree: _,
+            drains: _,
+            remains: _,
+            jobs: _,
+            given: _,
+            dead: _,
+        } = self;
+    }
 }
 
 impl Core {
