@@ -9,11 +9,20 @@ use std::alloc::Global;
 use std::marker::Model;
 
 /// A sink in memory. It has room for a stated number of bytes, and told calls of it fail.
-#[derive(Drop)]
 pub struct MemSink {
     bytes: Vec<u8>,
     room: usize,
     calls: FailingCalls,
+}
+
+impl Drop for MemSink {
+    fn drop(self) {
+        let Self {
+            bytes: _,
+            room: _,
+            calls: _,
+        } = self;
+    }
 }
 
 impl Model for MemSink {

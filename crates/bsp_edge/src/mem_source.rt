@@ -13,7 +13,6 @@ use std::marker::Model;
 
 /// A source in memory. Its pieces end where it was told, it is quiet where it was told, and told
 /// calls of it fail.
-#[derive(Drop)]
 pub struct MemSource {
     bytes: Vec<u8>,
     offset: usize,
@@ -21,6 +20,19 @@ pub struct MemSource {
     cuts: Vec<u64>,
     quiet: Vec<(u64, u32)>,
     calls: FailingCalls,
+}
+
+impl Drop for MemSource {
+    fn drop(self) {
+        let Self {
+            bytes: _,
+            offset: _,
+            began: _,
+            cuts: _,
+            quiet: _,
+            calls: _,
+        } = self;
+    }
 }
 
 impl Model for MemSource {

@@ -15,13 +15,24 @@ use std::alloc::Global;
 use std::marker::Model;
 
 /// A tree in memory. What its paths hold changes before told calls, and told calls of it fail.
-#[derive(Drop)]
 pub struct MemTree {
     alloc: Global,
     files: Snapshot,
     changes: Vec<(u64, Path, Held)>,
     handed: Vec<Snapshot>,
     calls: FailingCalls,
+}
+
+impl Drop for MemTree {
+    fn drop(self) {
+        let Self {
+            alloc: _,
+            files: _,
+            changes: _,
+            handed: _,
+            calls: _,
+        } = self;
+    }
 }
 
 impl Model for MemTree {

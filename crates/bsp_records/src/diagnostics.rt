@@ -20,13 +20,25 @@ pub enum DiagnosticSeverity {
 
 /// A diagnostic as the protocol has it (Language Server Protocol 3.17, section Diagnostic). A code
 /// that was a number is kept as its decimal text.
-#[derive(Debug, Drop, PartialEq)]
+#[derive(Debug, PartialEq)]
 pub struct DiagnosticRecord {
     pub range: Range,
     pub severity: Option<DiagnosticSeverity>,
     pub code: Option<Text>,
     pub source: Option<Text>,
     pub message: Text,
+}
+
+impl Drop for DiagnosticRecord {
+    fn drop(self) {
+        let Self {
+            range: _,
+            severity: _,
+            code: _,
+            source: _,
+            message: _,
+        } = self;
+    }
 }
 
 /// A position as a record that is read.

@@ -21,11 +21,21 @@ pub enum MessageType {
 }
 
 /// A line for the log (Build Server Protocol 2.2, build/logMessage). The kind is the member `type`.
-#[derive(Debug, Drop)]
+#[derive(Debug)]
 pub struct LogMessageParams {
     pub kind: MessageType,
     pub origin_id: Option<Text>,
     pub message: Text,
+}
+
+impl Drop for LogMessageParams {
+    fn drop(self) {
+        let Self {
+            kind: _,
+            origin_id: _,
+            message: _,
+        } = self;
+    }
 }
 
 /// What happened to a target (Build Server Protocol 2.2, BuildTargetEventKind). Its number in the

@@ -27,13 +27,25 @@ pub struct BuildClientCapabilities {
 
 /// Who the client is, and where its workspace lies (Build Server Protocol 2.2, build/initialize).
 /// `root_uri` has at most 4,096 bytes.
-#[derive(Debug, Drop)]
+#[derive(Debug)]
 pub struct InitializeParams {
     pub display_name: Text,
     pub version: Text,
     pub bsp_version: Text,
     pub root_uri: Text,
     pub capabilities: BuildClientCapabilities,
+}
+
+impl Drop for InitializeParams {
+    fn drop(self) {
+        let Self {
+            display_name: _,
+            version: _,
+            bsp_version: _,
+            root_uri: _,
+            capabilities: _,
+        } = self;
+    }
 }
 
 /// The targets whose documents are asked for (Build Server Protocol 2.2, buildTarget/sources).

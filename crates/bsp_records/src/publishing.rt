@@ -18,13 +18,25 @@ use std::alloc::Global;
 
 /// A list of diagnostics of one document and target, or a piece of it (Build Server Protocol 2.2,
 /// build/publishDiagnostics). With `reset` it replaces what is shown, else it goes behind that.
-#[derive(Debug, Drop)]
+#[derive(Debug)]
 pub struct PublishDiagnosticsParams {
     pub text_document: TextDocumentIdentifier,
     pub build_target: BuildTargetIdentifier,
     pub origin_id: Option<Text>,
     pub diagnostics: Items<DiagnosticRecord>,
     pub reset: bool,
+}
+
+impl Drop for PublishDiagnosticsParams {
+    fn drop(self) {
+        let Self {
+            text_document: _,
+            build_target: _,
+            origin_id: _,
+            diagnostics: _,
+            reset: _,
+        } = self;
+    }
 }
 
 /// Reads the params of build/publishDiagnostics.

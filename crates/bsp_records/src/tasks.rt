@@ -48,21 +48,43 @@ pub enum TaskStartBody {
 
 /// A task starts (Build Server Protocol 2.2, build/taskStart). The body is the member `data`, and its
 /// kind `dataKind`.
-#[derive(Debug, Drop)]
+#[derive(Debug)]
 pub struct TaskStartParams {
     pub task_id: TaskId,
     pub message: Option<Text>,
     pub body: Option<TaskStartBody>,
 }
 
+impl Drop for TaskStartParams {
+    fn drop(self) {
+        let Self {
+            task_id: _,
+            message: _,
+            body: _,
+        } = self;
+    }
+}
+
 /// What came of a target that was compiled. `no_op` says that nothing of it had to be checked.
-#[derive(Debug, Drop)]
+#[derive(Debug)]
 pub struct CompileReport {
     pub target: BuildTargetIdentifier,
     pub origin_id: Option<Text>,
     pub errors: u64,
     pub warnings: u64,
     pub no_op: Option<bool>,
+}
+
+impl Drop for CompileReport {
+    fn drop(self) {
+        let Self {
+            target: _,
+            origin_id: _,
+            errors: _,
+            warnings: _,
+            no_op: _,
+        } = self;
+    }
 }
 
 /// How a test ended (Build Server Protocol 2.2, TestStatus). Its number in the protocol is `status as u8`.
@@ -84,7 +106,7 @@ pub struct TestFinish {
 }
 
 /// What came of the tests of a target.
-#[derive(Debug, Drop)]
+#[derive(Debug)]
 pub struct TestReport {
     pub target: BuildTargetIdentifier,
     pub passed: u64,
@@ -92,6 +114,19 @@ pub struct TestReport {
     pub ignored: u64,
     pub cancelled: u64,
     pub skipped: u64,
+}
+
+impl Drop for TestReport {
+    fn drop(self) {
+        let Self {
+            target: _,
+            passed: _,
+            failed: _,
+            ignored: _,
+            cancelled: _,
+            skipped: _,
+        } = self;
+    }
 }
 
 /// What a finish tells of its task, by its data kind.
@@ -104,11 +139,21 @@ pub enum TaskFinishBody {
 
 /// A task finishes (Build Server Protocol 2.2, build/taskFinish). The body is the member `data`, and
 /// its kind `dataKind`.
-#[derive(Debug, Drop)]
+#[derive(Debug)]
 pub struct TaskFinishParams {
     pub task_id: TaskId,
     pub status: StatusCode,
     pub body: Option<TaskFinishBody>,
+}
+
+impl Drop for TaskFinishParams {
+    fn drop(self) {
+        let Self {
+            task_id: _,
+            status: _,
+            body: _,
+        } = self;
+    }
 }
 
 /// Writes the params of build/taskStart.

@@ -16,7 +16,6 @@ use oberon_types::View;
 use std::alloc::Global;
 
 /// The checks of one build, as far as they are.
-#[derive(Drop)]
 pub struct Checks {
     pub(crate) alloc: Global,
     pub(crate) sources: Sources,
@@ -31,6 +30,21 @@ pub struct Checks {
     pub(crate) out: u64,
     /// The number of the key of what a name shows that means no module.
     pub(crate) missing: u64,
+}
+
+impl Drop for Checks {
+    fn drop(self) {
+        let Self {
+            alloc: _,
+            sources: _,
+            wanted: _,
+            plan: _,
+            views: _,
+            numbers: _,
+            out: _,
+            missing: _,
+        } = self;
+    }
 }
 
 impl Checks {

@@ -12,9 +12,14 @@ use std::alloc::Global;
 use std::marker::Model;
 
 /// The order in which the places of a build are checked.
-#[derive(Drop)]
 pub struct Plan {
     front: Front,
+}
+
+impl Drop for Plan {
+    fn drop(self) {
+        let Self { front: _ } = self;
+    }
 }
 
 impl Model for Plan {

@@ -20,13 +20,22 @@ use std::sync::Arc;
 
 /// A document, read at most once for all the modules that it is. What is held and what was read are shared with those who
 /// check it.
-#[derive(Drop)]
 pub struct Document {
     pub held: Arc<Held>,
     /// What was read of it; none where its imports were known.
     pub reading: Option<Arc<Reading>>,
     /// The names that it imports, each once, in the order of the text.
     pub imports: Vec<Name>,
+}
+
+impl Drop for Document {
+    fn drop(self) {
+        let Self {
+            held: _,
+            reading: _,
+            imports: _,
+        } = self;
+    }
 }
 
 impl Document {
@@ -112,13 +121,22 @@ fn imports_in(alloc: Global, reading: &Reading) -> Result<Vec<Name>, NoMemory>
 }
 
 /// The documents that were handed out, by their paths.
-#[derive(Drop)]
 pub struct Documents {
     /// What was handed out, in order.
     entries: Vec<(Path, Arc<Held>)>,
     by_path: IndexMap<Path, Document>,
     /// What stands for each that wasn't handed out.
     absent: Box<Document>,
+}
+
+impl Drop for Documents {
+    fn drop(self) {
+        let Self {
+            entries: _,
+            by_path: _,
+            absent: _,
+        } = self;
+    }
 }
 
 impl Documents {

@@ -29,12 +29,21 @@ use std::sync::Arc;
 use target_graph::{Pair, Workspace, stem_of};
 
 /// What the checks of a build go by.
-#[derive(Drop)]
 pub struct Sources {
     pub workspace: Arc<Workspace>,
     pub documents: Documents,
     /// What the module Out shows.
     pub out: Box<View>,
+}
+
+impl Drop for Sources {
+    fn drop(self) {
+        let Self {
+            workspace: _,
+            documents: _,
+            out: _,
+        } = self;
+    }
 }
 
 impl Sources {

@@ -14,11 +14,20 @@ use ob_text::{Held, Name, NoMemory};
 use std::alloc::Global;
 
 /// The facts that are kept: for each pair at most one in its first place, and one in its other.
-#[derive(Drop)]
 pub struct Cache {
     alloc: Global,
     first: IndexMap<PairKey, Fact>,
     other: IndexMap<PairKey, Fact>,
+}
+
+impl Drop for Cache {
+    fn drop(self) {
+        let Self {
+            alloc: _,
+            first: _,
+            other: _,
+        } = self;
+    }
 }
 
 /// A kept check that is of the text and the imports that were asked for.

@@ -9,7 +9,6 @@ use std::marker::Model;
 use std::sync::Arc;
 
 /// A check that was made, with what it followed from. It is one by the rules, by what its type keeps.
-#[derive(Drop)]
 pub struct Fact {
     held: Arc<Held>,
     stem: Name,
@@ -18,6 +17,18 @@ pub struct Fact {
     /// These keys, in the same order.
     keys: Vec<Key>,
     checked: Checked,
+}
+
+impl Drop for Fact {
+    fn drop(self) {
+        let Self {
+            held: _,
+            stem: _,
+            imports: _,
+            keys: _,
+            checked: _,
+        } = self;
+    }
 }
 
 impl Model for Fact {

@@ -5,9 +5,14 @@ use std::alloc::Global;
 use std::marker::Model;
 
 /// Keys with a number each, in the order in which they came. A number stays with its key.
-#[derive(Drop)]
 pub struct Keys {
     keys: IndexSet<Key>,
+}
+
+impl Drop for Keys {
+    fn drop(self) {
+        let Self { keys: _ } = self;
+    }
 }
 
 /// Contracts see the list of the keys, in which each stands at its number.

@@ -9,7 +9,6 @@ use oberon_types::{Signature, Ty, Value, View};
 use std::alloc::Global;
 
 /// What a declared name means.
-#[derive(Drop)]
 pub enum Meaning<'a> {
     Unknown,
     Constant(Value),
@@ -24,6 +23,24 @@ pub enum Meaning<'a> {
     Import(&'a View),
 }
 
+impl<'a> Drop for Meaning<'a> {
+    fn drop(self) {
+        match self {
+            Self::Unknown => {}
+            Self::Constant(_) => {}
+            Self::Type(_) => {}
+            Self::Variable {
+                ty: _,
+                read_only: _,
+                by_var: _,
+            } => {}
+            Self::Procedure(_) => {}
+            Self::Word(_) => {}
+            Self::Import(_) => {}
+        }
+    }
+}
+
 /// What is known of a name that is declared.
 #[derive(Drop)]
 pub struct Binding<'a> {
@@ -32,17 +49,31 @@ pub struct Binding<'a> {
 }
 
 /// The names of one scope, in the order of their declarations. A name is found by its hash.
-#[derive(Drop)]
 pub struct Scope<'a> {
     bindings: IndexMap<Name, Binding<'a>>,
 }
 
+impl<'a> Drop for Scope<'a> {
+    fn drop(self) {
+        let Self { bindings: _ } = self;
+    }
+}
+
 /// The declarations that end before a place (The Programming Language Oberon-07, section 4).
-#[derive(Drop)]
 pub struct Scopes<'a> {
     pub procedure: Option<&'a Name>,
     pub locals: Option<Scope<'a>>,
     pub globals: Scope<'a>,
+}
+
+impl<'a> Drop for Scopes<'a> {
+    fn drop(self) {
+        let Self {
+            procedure: _,
+            locals: _,
+            globals: _,
+        } = self;
+    }
 }
 
 impl<'a> Scope<'a> {

@@ -10,21 +10,33 @@ use std::sync::Arc;
 
 /// One parameter of a procedure (The Programming Language Oberon-07, section 10.1). Its name belongs to the
 /// procedure's body and not here.
-#[derive(Drop)]
 pub struct Param {
     pub by_var: bool,
     pub ty: Ty,
 }
 
+impl Drop for Param {
+    fn drop(self) {
+        let Self { by_var: _, ty: _ } = self;
+    }
+}
+
 /// The parameters and the result of a procedure. One without a result is a proper procedure.
-#[derive(Drop)]
 pub struct Signature {
     pub params: Vec<Param>,
     pub result_type: Option<Ty>,
 }
 
+impl Drop for Signature {
+    fn drop(self) {
+        let Self {
+            params: _,
+            result_type: _,
+        } = self;
+    }
+}
+
 /// What an exported name stands for.
-#[derive(Drop)]
 pub enum Entity {
     Constant(Value),
     TypeName(Ty),
@@ -32,15 +44,30 @@ pub enum Entity {
     Proc(Signature),
 }
 
+impl Drop for Entity {
+    fn drop(self) {
+        match self {
+            Self::Constant(_) => {}
+            Self::TypeName(_) => {}
+            Self::Variable(_) => {}
+            Self::Proc(_) => {}
+        }
+    }
+}
+
 /// What a module exports, in the order of the names, each found by its hash. Its records have their exported fields
 /// alone.
-#[derive(Drop)]
 pub struct Exports {
     pub entities: IndexMap<Name, Entity>,
 }
 
+impl Drop for Exports {
+    fn drop(self) {
+        let Self { entities: _ } = self;
+    }
+}
+
 /// What a module shows to those that import it. Copies share what is exported.
-#[derive(Drop)]
 pub enum View {
     /// There is no module of that name.
     Missing,
@@ -49,6 +76,17 @@ pub enum View {
     /// Its imports lead back to it.
     Cyclic,
     Exports(Arc<Exports>),
+}
+
+impl Drop for View {
+    fn drop(self) {
+        match self {
+            Self::Missing => {}
+            Self::Broken => {}
+            Self::Cyclic => {}
+            Self::Exports(_) => {}
+        }
+    }
 }
 
 impl Param {

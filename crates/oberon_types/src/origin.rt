@@ -12,12 +12,22 @@ pub enum Step {
 }
 
 /// Where a record type is declared.
-#[derive(Drop)]
 pub struct Origin {
     pub module: Name,
     pub procedure: Option<Name>,
     pub name: Name,
     pub path: Items<Step>,
+}
+
+impl Drop for Origin {
+    fn drop(self) {
+        let Self {
+            module: _,
+            procedure: _,
+            name: _,
+            path: _,
+        } = self;
+    }
 }
 
 impl Origin {

@@ -24,7 +24,6 @@ pub enum Ty {
 
 /// A record type.
 #[cycle(ty)]
-#[derive(Drop)]
 pub struct RecordTy {
     pub origin: Origin,
     pub base: Option<Arc<RecordTy>>,
@@ -32,13 +31,35 @@ pub struct RecordTy {
     pub size: u32,
 }
 
+impl Drop for RecordTy {
+    #[cycle(ty)]
+    fn drop(self) {
+        let Self {
+            origin: _,
+            base: _,
+            fields: _,
+            size: _,
+        } = self;
+    }
+}
+
 /// A field.
 #[cycle(ty)]
-#[derive(Drop)]
 pub struct Field {
     pub name: Name,
     pub exported: bool,
     pub ty: Ty,
+}
+
+impl Drop for Field {
+    #[cycle(ty)]
+    fn drop(self) {
+        let Self {
+            name: _,
+            exported: _,
+            ty: _,
+        } = self;
+    }
 }
 
 impl Ty {

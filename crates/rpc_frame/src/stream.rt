@@ -16,7 +16,7 @@ use std::marker::Model;
 /// Cuts a stream that comes in any pieces into the contents of its frames. Looks at each byte of a
 /// header once, and copies a content once. Of the bytes that it gave it keeps no more than it has still
 /// to give.
-#[derive(Debug, Drop)]
+#[derive(Debug)]
 pub struct Decoder {
     alloc: Global,
     /// The end of the stream, of which the first `start` bytes were given.
@@ -27,6 +27,19 @@ pub struct Decoder {
     /// What has come behind them.
     reading: Reading,
     given_end: u64,
+}
+
+impl Drop for Decoder {
+    fn drop(self) {
+        let Self {
+            alloc: _,
+            bytes: _,
+            start: _,
+            marks: _,
+            reading: _,
+            given_end: _,
+        } = self;
+    }
 }
 
 impl Model for Decoder {

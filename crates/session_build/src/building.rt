@@ -53,10 +53,15 @@ pub struct BuildRequest {
 
 /// A build that began, some of whose checks run. They are made elsewhere, and their outcomes come one at a time, in any order.
 /// What it tells goes into the queue of messages that each call is passed.
-#[derive(Drop)]
 pub struct Build {
     at: Setting,
     going: Going,
+}
+
+impl Drop for Build {
+    fn drop(self) {
+        let Self { at: _, going: _ } = self;
+    }
 }
 
 /// What came of a build in a call.

@@ -8,13 +8,23 @@ use std::collections::VecDeque;
 
 /// The checks that a session keeps from build to build, with the numbers of the keys of what modules showed, and those of
 /// cancelled builds that may still come.
-#[derive(Drop)]
 pub struct Kept {
     pub(crate) alloc: Global,
     pub(crate) cache: Cache,
     pub(crate) keys: Keys,
     /// The oldest first.
     pub(crate) late: VecDeque<Late>,
+}
+
+impl Drop for Kept {
+    fn drop(self) {
+        let Self {
+            alloc: _,
+            cache: _,
+            keys: _,
+            late: _,
+        } = self;
+    }
 }
 
 impl Kept {

@@ -29,7 +29,6 @@ use worker_pool::Check;
 const LATE_LIMIT: usize = 4096;
 
 /// A check of a cancelled build, whose outcome may still come.
-#[derive(Drop)]
 pub(crate) struct Late {
     /// The number of its job.
     pub number: u64,
@@ -41,6 +40,18 @@ pub(crate) struct Late {
     pub held: Arc<Held>,
     /// The names that it imports, with the numbers of the keys of what they show.
     pub imports: Vec<(Name, u64)>,
+}
+
+impl Drop for Late {
+    fn drop(self) {
+        let Self {
+            number: _,
+            key: _,
+            stem: _,
+            held: _,
+            imports: _,
+        } = self;
+    }
 }
 
 impl Kept {

@@ -11,7 +11,6 @@ use std::sync::Arc;
 use target_graph::Workspace;
 
 /// What a build goes by.
-#[derive(Drop)]
 pub(crate) struct Setting {
     pub alloc: Global,
     pub workspace: Arc<Workspace>,
@@ -24,6 +23,20 @@ pub(crate) struct Setting {
     pub pairs: IndexSet<u32>,
     /// The targets that they are in, in the order of the workspace file.
     pub targets: IndexSet<u32>,
+}
+
+impl Drop for Setting {
+    fn drop(self) {
+        let Self {
+            alloc: _,
+            workspace: _,
+            number: _,
+            origin: _,
+            documents: _,
+            pairs: _,
+            targets: _,
+        } = self;
+    }
 }
 
 impl Setting {

@@ -17,12 +17,21 @@ use std::marker::Model;
 ///
 /// A request is marked and found by one hash of its id. The oldest one is taken in constant time, and one behind it in a
 /// time that grows by those before it.
-#[derive(Drop)]
 pub struct Queue<T> {
     alloc: Global,
     requests: VecDeque<Request<T>>,
     // of each id that waits, whether its request is to be cancelled
     marks: IndexMap<Id, bool>,
+}
+
+impl<T: Drop> Drop for Queue<T> {
+    fn drop(self) {
+        let Self {
+            alloc: _,
+            requests: _,
+            marks: _,
+        } = self;
+    }
 }
 
 impl<T> Model for Queue<T> {

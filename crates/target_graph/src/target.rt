@@ -11,13 +11,25 @@ pub enum TargetKind {
 /// A target of a workspace. Its dependencies are indices in the list of all targets, and its main
 /// module, which an
 /// application alone has, is the stem of one of its modules' paths.
-#[derive(Debug, Drop)]
+#[derive(Debug)]
 pub struct Target {
     pub name: Name,
     pub kind: TargetKind,
     pub modules: Items<Path>,
     pub dependencies: Items<u32>,
     pub main: Option<Name>,
+}
+
+impl Drop for Target {
+    fn drop(self) {
+        let Self {
+            name: _,
+            kind: _,
+            modules: _,
+            dependencies: _,
+            main: _,
+        } = self;
+    }
 }
 
 /// A target, by its index, and one of its modules.

@@ -31,7 +31,6 @@ use std::marker::Model;
 const ID_MARK: &[u8] = b"?id=";
 
 /// An accepted workspace file, with the root that its addresses are made of.
-#[derive(Drop)]
 pub struct Workspace {
     alloc: Global,
     root: Root,
@@ -41,6 +40,21 @@ pub struct Workspace {
     stems: IndexSet<Name>,
     groups: Vec<Vec<u32>>,
     closures: Vec<Vec<bool>>,
+}
+
+impl Drop for Workspace {
+    fn drop(self) {
+        let Self {
+            alloc: _,
+            root: _,
+            targets: _,
+            pairs: _,
+            names: _,
+            stems: _,
+            groups: _,
+            closures: _,
+        } = self;
+    }
 }
 
 impl Model for Workspace {

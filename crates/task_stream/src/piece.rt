@@ -12,19 +12,33 @@ use std::sync::Arc;
 pub(crate) const PIECE_LIMIT: usize = 100;
 
 /// A whole list that is published, which its pieces share.
-#[derive(Drop)]
 pub(crate) struct Whole {
     pub key: TableKey,
     pub origin: Arc<Option<Text>>,
     pub list: Arc<Items<Diagnostic>>,
 }
 
+impl Drop for Whole {
+    fn drop(self) {
+        let Self {
+            key: _,
+            origin: _,
+            list: _,
+        } = self;
+    }
+}
+
 /// A publication that waits to be written: the list that it is a piece of, and the index of its first diagnostic. Contracts
 /// see it as the params that it is written as. The first piece resets.
-#[derive(Drop)]
 pub struct Piece {
     whole: Arc<Whole>,
     first: usize,
+}
+
+impl Drop for Piece {
+    fn drop(self) {
+        let Self { whole: _, first: _ } = self;
+    }
 }
 
 impl Model for Piece {

@@ -20,10 +20,19 @@ use std::sync::Arc;
 
 /// What a client's table is keyed by: the address of a document, and the id of a target that has it. A client shows
 /// diagnostics for both together (Build Server Protocol 2.2, build/publishDiagnostics).
-#[derive(Debug, Drop, PartialEq, Eq, Hash)]
+#[derive(Debug, PartialEq, Eq, Hash)]
 pub struct TableKey {
     pub document: Address,
     pub target: Address,
+}
+
+impl Drop for TableKey {
+    fn drop(self) {
+        let Self {
+            document: _,
+            target: _,
+        } = self;
+    }
 }
 
 impl TableKey {
@@ -41,10 +50,15 @@ impl TableKey {
 }
 
 /// The list that a client shows at each key at which one was published.
-#[derive(Drop)]
 pub struct Shown {
     alloc: Global,
     lists: IndexMap<TableKey, Arc<Items<Diagnostic>>>,
+}
+
+impl Drop for Shown {
+    fn drop(self) {
+        let Self { alloc: _, lists: _ } = self;
+    }
 }
 
 impl Shown {

@@ -154,7 +154,7 @@ fn copies_signatures(rt: HostRuntime) -> Result<(), Fail> {
             .iter()
             .all(|param| param.by_var && same_type(&param.ty, &Ty::Str(2)))
     );
-    assert!(rt; copy.result_type.is_some_and(|ty| same_type(&ty, &Ty::Set)));
+    assert!(rt; matches!(&copy.result_type, Some(ty) if same_type(ty, &Ty::Set)));
     Ok(())
 }
 
@@ -190,7 +190,7 @@ fn view(alloc: Global) -> Result<View, NoMemory> {
 fn copies_views(rt: HostRuntime) -> Result<(), Fail> {
     let view = view(rt.alloc())?;
     assert!(rt; matches!(&view.copy()?, View::Exports(exports) if exports.entities.len() == 4));
-    assert!(rt; matches!(View::Cyclic.copy()?, View::Cyclic));
+    assert!(rt; matches!(&View::Cyclic.copy()?, View::Cyclic));
     Ok(())
 }
 

@@ -14,13 +14,23 @@ use std::sync::Arc;
 
 /// All that the check of one module takes. A text that is held is a document, and what was read is read of it, by what the
 /// type keeps.
-#[derive(Drop)]
 pub struct Check {
     held: Arc<Held>,
     /// What was read of it before; where there is none it is read as it is checked.
     reading: Option<Arc<Reading>>,
     stem: Name,
     views: IndexMap<Name, View>,
+}
+
+impl Drop for Check {
+    fn drop(self) {
+        let Self {
+            held: _,
+            reading: _,
+            stem: _,
+            views: _,
+        } = self;
+    }
 }
 
 impl Model for Check {

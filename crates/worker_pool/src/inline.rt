@@ -9,10 +9,18 @@ use crate::totals::Totals;
 use std::alloc::Global;
 
 /// Does its jobs where they are waited for, one in each wait, oldest first. It has no thread.
-#[derive(Drop)]
 pub struct InlineCrew {
     alloc: Global,
     backlog: Backlog,
+}
+
+impl Drop for InlineCrew {
+    fn drop(self) {
+        let Self {
+            alloc: _,
+            backlog: _,
+        } = self;
+    }
 }
 
 impl InlineCrew {

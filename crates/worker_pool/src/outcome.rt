@@ -17,10 +17,15 @@ pub enum Done {
 
 /// A job that was done, and what came of it. That is what the rules say of this job's work, by what its type keeps, however
 /// late the outcome is looked at.
-#[derive(Drop)]
 pub struct Outcome {
     job: Job,
     done: Done,
+}
+
+impl Drop for Outcome {
+    fn drop(self) {
+        let Self { job: _, done: _ } = self;
+    }
 }
 
 impl Model for Outcome {

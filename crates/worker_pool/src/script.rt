@@ -12,11 +12,20 @@ use std::alloc::Global;
 /// Does its jobs where they are waited for, one in each wait, in an order that is told in advance: each wait that does a job
 /// takes up the next number, and does the job at this place of those that weren't begun, modulo their count. Behind the
 /// end of the order it does the oldest one. It is for tests of what must hold in each order.
-#[derive(Drop)]
 pub struct ScriptCrew {
     alloc: Global,
     order: Vec<u32>,
     backlog: Backlog,
+}
+
+impl Drop for ScriptCrew {
+    fn drop(self) {
+        let Self {
+            alloc: _,
+            order: _,
+            backlog: _,
+        } = self;
+    }
 }
 
 impl ScriptCrew {
