@@ -1,5 +1,4 @@
-use crate::runs::WORKSPACE_FILE;
-use crate::steps::{APP, Case, OF_APP, expect_case};
+use session_runs::{APP, Case, OF_APP, WORKSPACE_FILE, expect_case};
 use std::test::Fail;
 
 const LIBRARY: (&[u8], &[u8]) = (
@@ -340,7 +339,7 @@ const LAYERS: Case<'static> = (
 #[test]
 fn shows_cycles(rt: HostRuntime) -> Result<(), Fail> {
     for case in &CYCLES {
-        expect_case(&rt, case)?;
+        expect_case(rt.alloc(), case)?;
     }
     Ok(())
 }
@@ -348,7 +347,7 @@ fn shows_cycles(rt: HostRuntime) -> Result<(), Fail> {
 #[test]
 fn shows_what_imports_are(rt: HostRuntime) -> Result<(), Fail> {
     for case in &IMPORTS {
-        expect_case(&rt, case)?;
+        expect_case(rt.alloc(), case)?;
     }
     Ok(())
 }
@@ -356,12 +355,12 @@ fn shows_what_imports_are(rt: HostRuntime) -> Result<(), Fail> {
 #[test]
 fn tells_targets_apart(rt: HostRuntime) -> Result<(), Fail> {
     for case in &TARGETS {
-        expect_case(&rt, case)?;
+        expect_case(rt.alloc(), case)?;
     }
     Ok(())
 }
 
 #[test]
 fn compiles_layers(rt: HostRuntime) -> Result<(), Fail> {
-    expect_case(&rt, &LAYERS)
+    expect_case(rt.alloc(), &LAYERS)
 }

@@ -1,11 +1,8 @@
-use crate::cancels::{ROW, Row, expect_row};
-use crate::runs::{
-    CLOSED, Files, INITIALIZED, Parts, WORKSPACE_FILE, expect_answers, expect_whole, session_of,
+use session_lines::{CLOSED, INITIALIZED, Parts, add_frame, add_told};
+use session_runs::{
+    APP, Files, ROW, Row, WORKSPACE_FILE, expect_answers, expect_row, expect_whole, session_of,
     tree,
 };
-use crate::sent::add_frame;
-use crate::steps::APP;
-use crate::told::add_told;
 use std::alloc::Global;
 use std::test::Fail;
 
@@ -126,9 +123,9 @@ const CASES: [Case; 7] = [
 #[test]
 fn compiles(rt: HostRuntime) -> Result<(), Fail> {
     let alloc = rt.alloc();
-    for (files, changes, failing, requests, answers) in CASES {
+    for &(files, changes, failing, requests, answers) in &CASES {
         let mut tree = tree(alloc, files, changes, failing)?;
-        expect_answers(&rt, &mut tree, requests, answers)?;
+        expect_answers(rt.alloc(), &mut tree, requests, answers)?;
     }
     Ok(())
 }
@@ -212,7 +209,7 @@ fn publishes_a_long_list_in_pieces(rt: HostRuntime) -> Result<(), Fail> {
     let mut tree = tree(rt.alloc(), &files, &[], &[])?;
     let session = session_of(rt.alloc(), &[COMPILE_2])?;
     let output = told_in_pieces(rt.alloc())?;
-    expect_whole(&rt, &mut tree, session, 0, output.as_slice())
+    expect_whole(rt.alloc(), &mut tree, session, 0, output.as_slice())
 }
 
 /// A build that is cancelled before its check shows no piece of the list.
@@ -221,7 +218,7 @@ fn publishes_nothing_of_a_check_that_was_not_done(rt: HostRuntime) -> Result<(),
     let text = bad_characters(rt.alloc())?;
     let files: [(&[u8], &[u8]); 2] = [APP, (b"A.Mod", text.as_slice())];
     expect_row(
-        &rt,
+        rt.alloc(),
         &Row {
             files: &files,
             sent: "

@@ -1,7 +1,7 @@
 //! Each of the diagnostics, as an editor is shown it: the smallest workspace that has it, and the status of its compile.
-use crate::runs::{Files, WORKSPACE_FILE};
-use crate::steps::{APP, Case, List, OF_APP, expect_case};
-use std::process::Abort;
+use session_lines::List;
+use session_runs::{APP, Case, Files, OF_APP, WORKSPACE_FILE, expect_case};
+use std::alloc::Global;
 use std::test::Fail;
 
 /// What is at A.Mod, as a byte and how often it stands there, where anything is; what is published of it, and the status
@@ -248,24 +248,14 @@ const PAIRS: [Case<'static>; 2] = [
 ];
 
 /// Whether a compile of the target with these files publishes these lists, and has this status.
-fn expect_lists(
-    rt: &(impl Abort + AllocGlobal),
-    files: Files,
-    lists: &[List],
-    status: u32,
-) -> Result<(), Fail> {
+fn expect_lists(alloc: Global, files: Files, lists: &[List], status: u32) -> Result<(), Fail> {
     let case: Case = (files, &[], &[(OF_APP, lists, status)]);
-    expect_case(rt, &case)
+    expect_case(alloc, &case)
 }
 
-fn expect_text(
-    rt: &(impl Abort + AllocGlobal),
-    text: &[u8],
-    found: &str,
-    status: u32,
-) -> Result<(), Fail> {
+fn expect_text(alloc: Global, text: &[u8], found: &str, status: u32) -> Result<(), Fail> {
     expect_lists(
-        rt,
+        alloc,
         &[APP, (b"A.Mod", text)],
         &[("app", "A.Mod", &[found])],
         status,
@@ -273,33 +263,33 @@ fn expect_text(
 }
 
 fn expect_no_text(
-    rt: &(impl Abort + AllocGlobal),
+    alloc: Global,
     held: Option<(u8, usize)>,
     found: &str,
     status: u32,
 ) -> Result<(), Fail> {
     match held {
-        None => expect_lists(rt, &[APP], &[("app", "A.Mod", &[found])], status),
+        None => expect_lists(alloc, &[APP], &[("app", "A.Mod", &[found])], status),
         Some((byte, count)) => {
-            let bytes = vec![in rt.alloc(); byte; count]?;
-            expect_text(rt, bytes.as_slice(), found, status)
+            let bytes = vec![in alloc; byte; count]?;
+            expect_text(alloc, bytes.as_slice(), found, status)
         }
     }
 }
 
 #[test]
 fn shows_each_diagnostic(rt: HostRuntime) -> Result<(), Fail> {
-    for (held, found, status) in NO_TEXTS {
-        expect_no_text(&rt, held, found, status)?;
+    for &(held, found, status) in &NO_TEXTS {
+        expect_no_text(rt.alloc(), held, found, status)?;
     }
-    for (text, found, status) in NAMES {
-        expect_text(&rt, text, found, status)?;
+    for &(text, found, status) in &NAMES {
+        expect_text(rt.alloc(), text, found, status)?;
     }
     for case in &PAIRS {
-        expect_case(&rt, case)?;
+        expect_case(rt.alloc(), case)?;
     }
-    for (text, found, status) in BODIES {
-        expect_text(&rt, text, found, status)?;
+    for &(text, found, status) in &BODIES {
+        expect_text(rt.alloc(), text, found, status)?;
     }
     Ok(())
 }

@@ -1,4 +1,4 @@
-use crate::runs::{APP_ALONE, Files, WORKSPACE_FILE, expect_answers, tree};
+use session_runs::{APP_ALONE, Files, WORKSPACE_FILE, expect_answers, tree};
 use std::test::Fail;
 
 const THREE: &[u8] =
@@ -97,10 +97,10 @@ const CASES: [(&[u8], &[&[u8]], &[&[u8]]); 3] = [
 #[test]
 fn answers_questions(rt: HostRuntime) -> Result<(), Fail> {
     let alloc = rt.alloc();
-    for (workspace, requests, answers) in CASES {
+    for &(workspace, requests, answers) in &CASES {
         let files: Files = &[(WORKSPACE_FILE, workspace)];
         let mut tree = tree(alloc, files, &[], &[])?;
-        expect_answers(&rt, &mut tree, requests, answers)?;
+        expect_answers(rt.alloc(), &mut tree, requests, answers)?;
     }
     Ok(())
 }

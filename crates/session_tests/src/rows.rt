@@ -1,14 +1,12 @@
-use crate::runs::{
-    CLOSED, EXIT, Fails, INITIALIZE, INITIALIZED, NOTHING_FAILS, Parts, Row, SHUTDOWN, WORKSPACE,
-    WORKSPACE_ALONE, WORKSPACE_FILE, expect, expect_over, expect_whole, file, framed, joined,
-    plain, tree,
-};
-use crate::sent::Sent;
+use crate::parts::{Row, expect, expect_over, plain};
 use bsp_cli::{Ended, Status, read_words, run_words};
 use bsp_edge::{MemSink, MemSource};
 use ob_text::{NoMemory, Text};
+use session_lines::{CLOSED, EXIT, INITIALIZE, INITIALIZED, Parts, SHUTDOWN, Sent, framed, joined};
+use session_runs::{
+    Fails, NOTHING_FAILS, WORKSPACE, WORKSPACE_ALONE, WORKSPACE_FILE, expect_whole, file, tree,
+};
 use std::alloc::Global;
-use std::process::Abort;
 use std::test::Fail;
 use worker_pool::InlineCrew;
 
@@ -30,7 +28,7 @@ const EARLY_CLOSE: &[u8] =
 #[test]
 fn two_frames(rt: HostRuntime) -> Result<(), Fail> {
     expect(
-        &rt,
+        rt.alloc(),
         &plain(
             &[INITIALIZE, SHUTDOWN, EXIT],
             0,
@@ -47,7 +45,7 @@ fn cut_after_each_byte(rt: HostRuntime) -> Result<(), Fail> {
         cuts.push(place)?;
     }
     expect(
-        &rt,
+        rt.alloc(),
         &Row {
             cuts: cuts.as_slice(),
             ..plain(
@@ -101,9 +99,9 @@ const ENDS: [(Parts, u8, u64, Parts, &[u8]); 9] = [
 
 #[test]
 fn ends_of_input(rt: HostRuntime) -> Result<(), Fail> {
-    for (sent, status, taken, output, notes) in ENDS {
+    for &(sent, status, taken, output, notes) in &ENDS {
         expect(
-            &rt,
+            rt.alloc(),
             &Row {
                 notes,
                 ..plain(sent, status, taken, output)
@@ -163,7 +161,7 @@ fn judges_before_and_behind_the_session(rt: HostRuntime) -> Result<(), Fail> {
     let output = early_and_late_answers(rt.alloc())?;
     let mut tree = tree(rt.alloc(), WORKSPACE_ALONE, &[], &[])?;
     let session = Sent::whole(rt.alloc(), early_and_late(rt.alloc())?);
-    expect_whole(&rt, &mut tree, session, 0, output.as_slice())
+    expect_whole(rt.alloc(), &mut tree, session, 0, output.as_slice())
 }
 
 /// A body, and what it is answered.
@@ -196,17 +194,17 @@ fn with_body(alloc: Global, front: &[u8], body: &[u8]) -> Result<Vec<u8>, Fail> 
     joined(alloc, &[front, frame.as_slice()])
 }
 
-fn expect_judged(rt: &(impl Abort + AllocGlobal), body: &[u8], answer: &[u8]) -> Result<(), Fail> {
-    let output = with_body(rt.alloc(), INITIALIZED, answer)?;
-    let mut tree = tree(rt.alloc(), WORKSPACE_ALONE, &[], &[])?;
-    let session = Sent::whole(rt.alloc(), with_body(rt.alloc(), INITIALIZE, body)?);
-    expect_whole(rt, &mut tree, session, 1, output.as_slice())
+fn expect_judged(alloc: Global, body: &[u8], answer: &[u8]) -> Result<(), Fail> {
+    let output = with_body(alloc, INITIALIZED, answer)?;
+    let mut tree = tree(alloc, WORKSPACE_ALONE, &[], &[])?;
+    let session = Sent::whole(alloc, with_body(alloc, INITIALIZE, body)?);
+    expect_whole(alloc, &mut tree, session, 1, output.as_slice())
 }
 
 #[test]
 fn judges_bodies_and_ids(rt: HostRuntime) -> Result<(), Fail> {
-    for (body, answer) in JUDGED {
-        expect_judged(&rt, body, answer)?;
+    for &(body, answer) in &JUDGED {
+        expect_judged(rt.alloc(), body, answer)?;
     }
     Ok(())
 }
@@ -230,7 +228,7 @@ fn largest_frame(rt: HostRuntime) -> Result<(), Fail> {
     let output = joined(rt.alloc(), &[INITIALIZED, CLOSED])?;
     let mut tree = tree(rt.alloc(), WORKSPACE_ALONE, &[], &[])?;
     let session = Sent::whole(rt.alloc(), largest_session(rt.alloc())?);
-    expect_whole(&rt, &mut tree, session, 0, output.as_slice())
+    expect_whole(rt.alloc(), &mut tree, session, 0, output.as_slice())
 }
 
 const FILL: &[u8] = b"................................................................";
@@ -257,11 +255,11 @@ const DAMAGES: [(Parts, &[u8]); 9] = [
     ),
 ];
 
-fn expect_damage(rt: &(impl Abort + AllocGlobal), sent: Parts, damage: &[u8]) -> Result<(), Fail> {
-    let taken = joined(rt.alloc(), sent)?.len() as u64;
-    let notes = joined(rt.alloc(), &[b"damaged input at byte ", damage, b"\n"])?;
+fn expect_damage(alloc: Global, sent: Parts, damage: &[u8]) -> Result<(), Fail> {
+    let taken = joined(alloc, sent)?.len() as u64;
+    let notes = joined(alloc, &[b"damaged input at byte ", damage, b"\n"])?;
     expect(
-        rt,
+        alloc,
         &Row {
             notes: notes.as_slice(),
             ..plain(sent, 2, taken, &[PARSE_ERROR])
@@ -271,8 +269,8 @@ fn expect_damage(rt: &(impl Abort + AllocGlobal), sent: Parts, damage: &[u8]) ->
 
 #[test]
 fn damages(rt: HostRuntime) -> Result<(), Fail> {
-    for (sent, damage) in DAMAGES {
-        expect_damage(&rt, sent, damage)?;
+    for &(sent, damage) in &DAMAGES {
+        expect_damage(rt.alloc(), sent, damage)?;
     }
     Ok(())
 }
@@ -289,9 +287,9 @@ const READS: [(&[u64], u8, u64, Parts, &[u8]); 4] = [
 
 #[test]
 fn source_fails_at_each_call(rt: HostRuntime) -> Result<(), Fail> {
-    for (input, status, taken, output, notes) in READS {
+    for &(input, status, taken, output, notes) in &READS {
         expect(
-            &rt,
+            rt.alloc(),
             &Row {
                 cuts: &[203, 275],
                 fails: Fails {
@@ -315,9 +313,9 @@ const WRITES: [(&[u64], u8, u64, Parts); 3] = [
 
 #[test]
 fn sink_fails_at_each_write(rt: HostRuntime) -> Result<(), Fail> {
-    for (fails, status, taken, answers) in WRITES {
+    for &(fails, status, taken, answers) in &WRITES {
         expect(
-            &rt,
+            rt.alloc(),
             &Row {
                 fails: Fails {
                     output: fails,
@@ -340,9 +338,9 @@ const NOTES: [(&[u64], &[u64], Parts, &[u8]); 3] = [
 
 #[test]
 fn sink_fails_at_damage(rt: HostRuntime) -> Result<(), Fail> {
-    for (output, notes, answers, note) in NOTES {
+    for &(output, notes, answers, note) in &NOTES {
         expect(
-            &rt,
+            rt.alloc(),
             &Row {
                 fails: Fails {
                     output,
@@ -367,10 +365,10 @@ const HANDS: [(&[u64], u8, Parts, usize); 4] = [
 
 #[test]
 fn tree_fails_at_each_call(rt: HostRuntime) -> Result<(), Fail> {
-    for (failing, status, answers, handed) in HANDS {
+    for &(failing, status, answers, handed) in &HANDS {
         let sent = [INITIALIZE, INITIALIZE, SHUTDOWN, EXIT];
         let mut tree = tree(rt.alloc(), WORKSPACE_ALONE, &[], failing)?;
-        expect_over(&rt, &plain(&sent, status, 539, answers), &mut tree)?;
+        expect_over(rt.alloc(), &plain(&sent, status, 539, answers), &mut tree)?;
         assert_eq!(rt; tree.handed().len(), handed);
     }
     Ok(())
@@ -380,7 +378,7 @@ fn tree_fails_at_each_call(rt: HostRuntime) -> Result<(), Fail> {
 fn tree_is_asked_for_the_workspace_file(rt: HostRuntime) -> Result<(), Fail> {
     let mut tree = tree(rt.alloc(), WORKSPACE_ALONE, &[], &[])?;
     expect_over(
-        &rt,
+        rt.alloc(),
         &plain(&[INITIALIZE], 1, 203, &[INITIALIZED]),
         &mut tree,
     )?;
@@ -440,7 +438,7 @@ fn run_of(alloc: Global, words: Parts) -> Result<(Ended, MemSink, usize), Fail> 
 
 #[test]
 fn other_words(rt: HostRuntime) -> Result<(), Fail> {
-    for words in WORDS {
+    for &words in &WORDS {
         let (ended, notes, asked) = run_of(rt.alloc(), words)?;
         let want = Ended {
             status: Status::Usage,

@@ -1,15 +1,9 @@
 //! Sessions of compiles with all that they are told: which checks start, and what is reported of the targets.
 //!
 //! Initialize is the first message of each session, so the compiles are messages 2, 3 and so on. These are their ids too.
-use crate::asked::compile;
-use crate::runs::{
-    CLOSED, EXIT, Files, INITIALIZE, INITIALIZED, SHUTDOWN, WORKSPACE_FILE, expect_whole, tree,
-};
-use crate::sent::Sent;
-use crate::steps::APP;
-use crate::told::add_told;
+use session_lines::{CLOSED, EXIT, INITIALIZE, INITIALIZED, SHUTDOWN, Sent, add_told, compile};
+use session_runs::{APP, Files, WORKSPACE_FILE, expect_whole, tree};
 use std::alloc::Global;
-use std::process::Abort;
 use std::test::Fail;
 
 /// A session: the files, what changes before a call of the tree (the second call is that of the first compile), which
@@ -689,23 +683,23 @@ fn output_of(alloc: Global, row: &Row) -> Result<Vec<u8>, Fail> {
 }
 
 /// Runs the session of a row, and looks at all that it is answered.
-fn expect_row(rt: &(impl Abort + AllocGlobal), row: &Row) -> Result<(), Fail> {
-    let mut tree = tree(rt.alloc(), row.files, row.changes, row.failing)?;
-    let session = session_of(rt.alloc(), row)?;
-    let output = output_of(rt.alloc(), row)?;
-    expect_whole(rt, &mut tree, session, 0, output.as_slice())
+fn expect_row(alloc: Global, row: &Row) -> Result<(), Fail> {
+    let mut tree = tree(alloc, row.files, row.changes, row.failing)?;
+    let session = session_of(alloc, row)?;
+    let output = output_of(alloc, row)?;
+    expect_whole(alloc, &mut tree, session, 0, output.as_slice())
 }
 
 #[test]
 fn tells_of_tasks(rt: HostRuntime) -> Result<(), Fail> {
     for row in &ALONE {
-        expect_row(&rt, row)?;
+        expect_row(rt.alloc(), row)?;
     }
     for row in &IMPORTS {
-        expect_row(&rt, row)?;
+        expect_row(rt.alloc(), row)?;
     }
     for row in &CYCLES {
-        expect_row(&rt, row)?;
+        expect_row(rt.alloc(), row)?;
     }
     Ok(())
 }

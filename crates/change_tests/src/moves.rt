@@ -1,7 +1,8 @@
 //! Sessions whose reloads move, add and take out modules and targets.
-use crate::cancels::{ROW, Row, expect_rows};
-use crate::reloads::{A, A_OF_LIB, APP_AND_OLD, BUILT, Behind, ODD_Z, expect_behind};
-use crate::runs::{APP_ALONE, WORKSPACE, WORKSPACE_FILE};
+use crate::reloads::{A_OF_LIB, APP_AND_OLD, BUILT};
+use session_runs::{
+    A, APP_ALONE, Behind, ODD_Z, ROW, Row, WORKSPACE, WORKSPACE_FILE, expect_behind, expect_rows,
+};
 use std::test::Fail;
 
 /// The library of `BUILT` has another name.
@@ -280,6 +281,6 @@ const ROWS: &[Row<'static>] = &[MODULE_COMES, TARGET_COMES, TWO_GO];
 
 #[test]
 fn moves_modules_and_targets(rt: HostRuntime) -> Result<(), Fail> {
-    expect_behind(&rt, BEHIND_A_BUILD)?;
-    expect_rows(&rt, ROWS)
+    expect_behind(rt.alloc(), BEHIND_A_BUILD)?;
+    expect_rows(rt.alloc(), ROWS)
 }

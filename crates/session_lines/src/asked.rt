@@ -15,7 +15,7 @@
 //!     wait 2                  what follows comes behind so many outcomes
 //!
 //! An id is written as in JSON.
-use crate::runs::{EXIT, INITIALIZE};
+use crate::fixed::{EXIT, INITIALIZE};
 use crate::sent::Sent;
 use std::alloc::Global;
 use std::test::Fail;

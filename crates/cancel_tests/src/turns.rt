@@ -1,9 +1,7 @@
 //! Sessions by crews that aren't the program's: outcomes in another order, crews without room, and outcomes that come when
 //! their build was cancelled.
-use crate::cancels::{BETWEEN_OUTCOMES, ROW, Row, THREE, THREE_CLEAN, expect_by};
-use crate::crews::{CountingCrew, KeenCrew};
-use crate::reloads::{A, ODD_Z};
-use crate::runs::{Files, WORKSPACE_FILE};
+use crate::cancels::{BETWEEN_OUTCOMES, THREE, THREE_CLEAN};
+use session_runs::{A, CountingCrew, Files, KeenCrew, ODD_Z, ROW, Row, WORKSPACE_FILE, expect_by};
 use std::process::Abort;
 use std::test::Fail;
 
@@ -152,7 +150,7 @@ fn expect_counted(
 ) -> Result<(), Fail> {
     let order = Vec::from_slice(rt.alloc(), order)?;
     let mut crew = CountingCrew::new(rt.alloc(), order, room);
-    expect_by(rt, row, &mut crew)?;
+    expect_by(rt.alloc(), row, &mut crew)?;
     assert_eq!(rt; crew.given, given);
     assert_eq!(rt; crew.drained, drained);
     Ok(())
@@ -549,7 +547,7 @@ fn shows_nothing_that_comes_late(rt: HostRuntime) -> Result<(), Fail> {
     for (row, order) in &LATE {
         let order = Vec::from_slice(rt.alloc(), order)?;
         let mut crew = KeenCrew::new(rt.alloc(), order);
-        expect_by(&rt, row, &mut crew)?;
+        expect_by(rt.alloc(), row, &mut crew)?;
     }
     Ok(())
 }

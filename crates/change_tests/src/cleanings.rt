@@ -1,6 +1,6 @@
 //! Sessions with cleanings: what these make due again, and what stays known and shown.
-use crate::cancels::{ROW, Row, expect_rows};
-use crate::reloads::{A_OF_LIB, BUILT, Behind, ODD_A, expect_behind};
+use crate::reloads::{A_OF_LIB, BUILT, ODD_A};
+use session_runs::{Behind, ROW, Row, expect_behind, expect_rows};
 use std::test::Fail;
 
 /// Cleanings behind a build of two targets, one of which shows an error.
@@ -331,6 +331,6 @@ null 7
 
 #[test]
 fn cleans(rt: HostRuntime) -> Result<(), Fail> {
-    expect_behind(&rt, BEHIND_A_BUILD)?;
-    expect_rows(&rt, ROWS)
+    expect_behind(rt.alloc(), BEHIND_A_BUILD)?;
+    expect_rows(rt.alloc(), ROWS)
 }

@@ -1,10 +1,7 @@
 //! A hundred compiles in one piece, of which each second one is cancelled.
-use crate::asked::add_asked;
-use crate::cancels::{ROW, expect_told};
-use crate::sent::Sent;
-use crate::told::add_told;
+use session_lines::{Sent, add_asked, add_told};
+use session_runs::{ROW, expect_told};
 use std::alloc::Global;
-use std::process::Abort;
 use std::test::Fail;
 use worker_pool::InlineCrew;
 
@@ -88,21 +85,21 @@ fn add_build(lines: &mut String, id: u32) -> Result<(), Fail> {
     Ok(())
 }
 
-fn expect_half(rt: &(impl Abort + AllocGlobal), even: bool, switched: &str) -> Result<(), Fail> {
-    let asked = asked(rt.alloc(), even)?;
-    let mut session = Sent::new(rt.alloc());
-    add_asked(rt.alloc(), asked.as_str(), "", &mut session)?;
-    let told = answered(rt.alloc(), even, switched)?;
-    let mut output = Vec::new(rt.alloc());
-    add_told(rt.alloc(), told.as_str(), "", &mut output)?;
-    let mut crew = InlineCrew::new(rt.alloc());
-    expect_told(rt, &ROW, session, output.as_slice(), &mut crew)
+fn expect_half(alloc: Global, even: bool, switched: &str) -> Result<(), Fail> {
+    let asked = asked(alloc, even)?;
+    let mut session = Sent::new(alloc);
+    add_asked(alloc, asked.as_str(), "", &mut session)?;
+    let told = answered(alloc, even, switched)?;
+    let mut output = Vec::new(alloc);
+    add_told(alloc, told.as_str(), "", &mut output)?;
+    let mut crew = InlineCrew::new(alloc);
+    expect_told(alloc, &ROW, session, output.as_slice(), &mut crew)
 }
 
 #[test]
 fn cancels_each_second_one(rt: HostRuntime) -> Result<(), Fail> {
-    for (even, switched) in HALVES {
-        expect_half(&rt, even, switched)?;
+    for &(even, switched) in &HALVES {
+        expect_half(rt.alloc(), even, switched)?;
     }
     Ok(())
 }

@@ -1,7 +1,8 @@
 //! Sessions in which reloads and cleanings wait behind builds.
-use crate::cancels::{ROW, Row, expect_rows};
-use crate::reloads::{A, APP_AND_OLD, BUILT, Behind, ODD_A, ODD_Z, TWO, expect_behind};
-use crate::runs::{APP_ALONE, WORKSPACE_FILE};
+use crate::reloads::{APP_AND_OLD, BUILT, ODD_A, TWO};
+use session_runs::{
+    A, APP_ALONE, Behind, ODD_Z, ROW, Row, WORKSPACE_FILE, expect_behind, expect_rows,
+};
 use std::test::Fail;
 
 /// Requests wait behind a build, in order: a reload, and a compile by the workspace that it puts in force.
@@ -270,6 +271,6 @@ const ROWS: &[Row<'static>] = &[
 
 #[test]
 fn waits_behind_a_build(rt: HostRuntime) -> Result<(), Fail> {
-    expect_rows(&rt, ROWS)?;
-    expect_behind(&rt, CANCELLED_DO_NOTHING)
+    expect_rows(rt.alloc(), ROWS)?;
+    expect_behind(rt.alloc(), CANCELLED_DO_NOTHING)
 }

@@ -1,52 +1,6 @@
 //! Sessions in which requests are cancelled while builds run, or a build is cut off by what ends a session.
-//!
-//! Each message counts: the build of message 3 is `r3`, whatever its id. The crew of the program does one check in each wait,
-//! so `wait 2` is behind two checks.
-ghost use Rattle.worker_pool.specs.Crews.{IsFresh};
-
-use crate::asked::add_asked;
-use crate::runs::{
-    Fails, Files, NOTHING_FAILS, WORKSPACE_FILE, changing_tree, expect_left, run_by,
-};
-use crate::sent::Sent;
-use crate::steps::APP;
-use crate::told::add_told;
-use std::alloc::Global;
-use std::process::Abort;
+use session_runs::{Files, ROW, Row, WORKSPACE_FILE, expect_longer, expect_rows};
 use std::test::Fail;
-use worker_pool::{Crew, InlineCrew};
-
-/// A session: the files, what changes and what goes before a call of the tree (the second call is that of the first build),
-/// which calls of it fail, what is sent, the member `originId` of its compiles, which reads of the input fail, what is written,
-/// and the status.
-#[derive(Clone, Copy)]
-pub struct Row<'a> {
-    pub files: Files<'a>,
-    pub changes: &'a [(u64, &'a [u8], &'a [u8])],
-    pub gone: &'a [(u64, &'a [u8])],
-    pub unread: &'a [u64],
-    pub sent: &'a str,
-    pub origin: &'a str,
-    pub failing: &'static [u64],
-    pub told: &'a str,
-    pub notes: &'a str,
-    pub status: u8,
-}
-
-pub const ROW: Row<'static> = Row {
-    files: &[APP, CLEAN],
-    changes: &[],
-    gone: &[],
-    unread: &[],
-    sent: "",
-    origin: "",
-    failing: &[],
-    told: "",
-    notes: "",
-    status: 0,
-};
-
-const CLEAN: (&[u8], &[u8]) = (b"A.Mod", b"MODULE A; END A.");
 
 pub const THREE: (&[u8], &[u8]) = (
     WORKSPACE_FILE,
@@ -562,96 +516,19 @@ result 4 3
 error 7 -32800 request cancelled
 ";
 
-/// Runs the session of a row by the crew that the program has, and looks at all that it is answered.
-pub fn expect_row(rt: &(impl Abort + AllocGlobal), row: &Row) -> Result<(), Fail> {
-    let mut crew = InlineCrew::new(rt.alloc());
-    expect_by(rt, row, &mut crew)
-}
-
-/// The same of each of these rows.
-pub fn expect_rows(rt: &(impl Abort + AllocGlobal), rows: &[Row]) -> Result<(), Fail> {
-    for row in rows {
-        expect_row(rt, row)?;
-    }
-    Ok(())
-}
-
-/// The same by a crew that was given no job.
-pub fn expect_by<C: Crew>(
-    rt: &(impl Abort + AllocGlobal),
-    row: &Row,
-    crew: &mut C,
-) -> Result<(), Fail>
-    requires { IsFresh (C.sight crew.old) }
-{
-    let session = sent_of(rt.alloc(), row)?;
-    let output = output_of(rt.alloc(), row)?;
-    expect_told(rt, row, session, output.as_slice(), crew)
-}
-
-/// Runs a session over the files of a row, whose reads fail as there, and looks for this output, and for the row's note and
-/// status.
-pub fn expect_told<C: Crew>(
-    rt: &(impl Abort + AllocGlobal),
-    row: &Row,
-    session: Sent,
-    output: &[u8],
-    crew: &mut C,
-) -> Result<(), Fail>
-    requires { IsFresh (C.sight crew.old) }
-{
-    let mut tree = changing_tree(rt.alloc(), row.files, row.changes, row.gone, row.unread)?;
-    let taken = session.bytes.len() as u64;
-    let fails = Fails {
-        input: row.failing,
-        ..NOTHING_FAILS
-    };
-    let left = run_by(rt.alloc(), session, fails, &mut tree, crew)?;
-    expect_left(rt, &left, row.status, taken, output, row.notes.as_bytes());
-    Ok(())
-}
-
-fn sent_of(alloc: Global, row: &Row) -> Result<Sent, Fail> {
-    let mut sent = Sent::new(alloc);
-    add_asked(alloc, row.sent, row.origin, &mut sent)?;
-    Ok(sent)
-}
-
-fn output_of(alloc: Global, row: &Row) -> Result<Vec<u8>, Fail> {
-    let mut output = Vec::new(alloc);
-    add_told(alloc, row.told, row.origin, &mut output)?;
-    Ok(output)
-}
-
 #[test]
 fn cancels_what_is_open(rt: HostRuntime) -> Result<(), Fail> {
-    expect_rows(&rt, CANCELS)
+    expect_rows(rt.alloc(), CANCELS)
 }
 
 #[test]
 fn cancels_nothing_else(rt: HostRuntime) -> Result<(), Fail> {
-    expect_rows(&rt, IDLE)
+    expect_rows(rt.alloc(), IDLE)
 }
 
-/// The session of a row with more lines behind it, and what these write.
-pub fn expect_longer(
-    rt: &(impl Abort + AllocGlobal),
-    row: &Row,
-    sent: &str,
-    told: &str,
-) -> Result<(), Fail> {
-    let mut session = sent_of(rt.alloc(), row)?;
-    add_asked(rt.alloc(), sent, row.origin, &mut session)?;
-    let mut output = output_of(rt.alloc(), row)?;
-    add_told(rt.alloc(), told, row.origin, &mut output)?;
-    let mut crew = InlineCrew::new(rt.alloc());
-    expect_told(rt, row, session, output.as_slice(), &mut crew)
-}
-
-/// What ends a session cancels the build that runs first, and then what waits, in order.
 #[test]
 fn ends_while_a_build_runs(rt: HostRuntime) -> Result<(), Fail> {
-    for (end, failing, told, notes, status) in ENDS {
+    for &(end, failing, told, notes, status) in &ENDS {
         let row = Row {
             files: THREE_CLEAN,
             sent: BEFORE_THE_END,
@@ -661,7 +538,7 @@ fn ends_while_a_build_runs(rt: HostRuntime) -> Result<(), Fail> {
             status,
             ..ROW
         };
-        expect_longer(&rt, &row, end, told)?;
+        expect_longer(rt.alloc(), &row, end, told)?;
     }
     Ok(())
 }

@@ -21,9 +21,9 @@
 //!     targets 4 app application       an answer that lists targets, each with its kind, and none with a dependency
 //!     error 2 -32603 sources unreadable
 //!     body {"id":1}                   a message as it is written
-use crate::runs::INITIALIZED;
+use crate::fixed::INITIALIZED;
+use crate::lists::published;
 use crate::sent::add_frame;
-use crate::steps::published;
 use std::alloc::Global;
 use std::test::Fail;
 

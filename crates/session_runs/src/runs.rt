@@ -1,44 +1,13 @@
 ghost use Rattle.worker_pool.specs.Crews.{IsFresh};
 
-use crate::sent::{Sent, add_frame};
+use crate::files::Files;
 use bsp_cli::{Ended, read_words, run_words};
 use bsp_edge::{MemSink, MemSource, MemTree, Sink, Source, Tree};
 use ob_text::{Held, Items, Path, Snapshot, Text};
+use session_lines::{CLOSED, EXIT, INITIALIZE, INITIALIZED, SHUTDOWN, Sent, framed, joined};
 use std::alloc::Global;
-use std::process::Abort;
 use std::test::Fail;
 use worker_pool::{Crew, InlineCrew};
-
-pub const INITIALIZE: &[u8] =
-    b"Content-Length: 180\r\n\r\n{\"jsonrpc\":\"2.0\",\"id\":1,\"method\":\"build/initialize\",\"params\":{\"displayName\":\"t\",\"version\":\"1\",\"bspVersion\":\"2.2.0\",\"rootUri\":\"file:///w\",\"capabilities\":{\"languageIds\":[\"oberon\"]}}}";
-
-pub const SHUTDOWN: &[u8] =
-    b"Content-Length: 50\r\n\r\n{\"jsonrpc\":\"2.0\",\"id\":2,\"method\":\"build/shutdown\"}";
-
-pub const EXIT: &[u8] =
-    b"Content-Length: 39\r\n\r\n{\"jsonrpc\":\"2.0\",\"method\":\"build/exit\"}";
-
-pub const INITIALIZED: &[u8] =
-    b"Content-Length: 327\r\n\r\n{\"id\":1,\"jsonrpc\":\"2.0\",\"result\":{\"bspVersion\":\"2.2.0\",\"capabilities\":{\"buildTargetChangedProvider\":true,\"canReload\":true,\"compileProvider\":{\"languageIds\":[\"oberon\"]},\"inverseSourcesProvider\":true,\"runProvider\":{\"languageIds\":[\"oberon\"]},\"testProvider\":{\"languageIds\":[\"oberon\"]}},\"displayName\":\"oberon-bsp\",\"version\":\"1.0.0\"}}";
-
-pub const CLOSED: &[u8] =
-    b"Content-Length: 38\r\n\r\n{\"id\":2,\"jsonrpc\":\"2.0\",\"result\":null}";
-
-/// The path of the file that describes a workspace.
-pub const WORKSPACE_FILE: &[u8] = b"oberon-build.json";
-
-pub const WORKSPACE: &[u8] = b"{\"version\":1,\"targets\":[]}";
-
-/// A workspace of one target, which has one module.
-pub const APP_ALONE: &[u8] =
-    b"{\"version\":1,\"targets\":[{\"name\":\"app\",\"kind\":\"application\",\"modules\":[\"A.Mod\"],\"main\":\"A\"}]}";
-
-pub type Parts<'a> = &'a [&'a [u8]];
-
-pub type Files<'a> = &'a [(&'a [u8], &'a [u8])];
-
-/// The files of a workspace without targets.
-pub const WORKSPACE_ALONE: Files<'static> = &[(WORKSPACE_FILE, WORKSPACE)];
 
 /// The ordinals of the calls that fail.
 #[derive(Clone, Copy)]
@@ -48,62 +17,31 @@ pub struct Fails {
     pub notes: &'static [u64],
 }
 
+/// No call fails.
 pub const NOTHING_FAILS: Fails = Fails {
     input: &[],
     output: &[],
     notes: &[],
 };
 
-/// A run of `serve`: the parts of its input, where that is cut and what fails, and what the run must leave.
-#[derive(Clone, Copy)]
-pub struct Row<'a> {
-    pub sent: Parts<'a>,
-    pub cuts: &'a [u64],
-    pub fails: Fails,
-    pub status: u8,
-    pub taken: u64,
-    pub output: Parts<'a>,
-    pub notes: &'a [u8],
-}
-
-/// A row whose input is in one piece, where nothing fails and nothing is noted.
-pub fn plain<'a>(sent: Parts<'a>, status: u8, taken: u64, output: Parts<'a>) -> Row<'a> {
-    Row {
-        sent,
-        cuts: &[],
-        fails: NOTHING_FAILS,
-        status,
-        taken,
-        output,
-        notes: b"",
-    }
-}
-
 /// What a run left: how it ended, and its sinks.
-#[derive(Drop)]
 pub struct Left {
     pub ended: Ended,
     pub output: MemSink,
     pub notes: MemSink,
 }
 
-pub fn joined(alloc: Global, parts: &[&[u8]]) -> Result<Vec<u8>, Fail> {
-    let mut bytes = Vec::new(alloc);
-    for part in parts {
-        bytes.extend_from_slice(part)?;
+impl Drop for Left {
+    fn drop(self) {
+        let Self {
+            ended: _,
+            output: _,
+            notes: _,
+        } = self;
     }
-    Ok(bytes)
 }
 
-/// The frames of these bodies.
-pub fn framed(alloc: Global, bodies: &[&[u8]]) -> Result<Vec<u8>, Fail> {
-    let mut bytes = Vec::new(alloc);
-    for body in bodies {
-        add_frame(alloc, body, &mut bytes)?;
-    }
-    Ok(bytes)
-}
-
+/// A file of this path and text.
 pub fn file(alloc: Global, path: &[u8], text: &[u8]) -> Result<(Path, Held), Fail> {
     let path = Path::new(alloc, path)?;
     Ok((path, Held::Text(Text::new(alloc, text)?)))
@@ -160,9 +98,7 @@ pub fn changing_tree(
 }
 
 fn source(alloc: Global, sent: Sent, failing: &[u64]) -> Result<MemSource, Fail> {
-    let failing = Vec::from_slice(alloc, failing)?;
-    let Sent { bytes, cuts, quiet } = sent;
-    Ok(MemSource::new(bytes, cuts, quiet, failing))
+    Ok(sent.into_source(Vec::from_slice(alloc, failing)?))
 }
 
 fn sink(alloc: Global, failing: &[u64]) -> Result<MemSink, Fail> {
@@ -214,64 +150,50 @@ pub fn run(alloc: Global, sent: Sent, fails: Fails, tree: &mut MemTree) -> Resul
     run_by(alloc, sent, fails, tree, &mut crew)
 }
 
-fn expect_end(rt: &impl Abort, left: &Left, status: u8, taken: u64, notes: &[u8]) {
-    assert_eq!(rt; left.ended.status.code(), status);
-    assert_eq!(rt; left.ended.taken, taken);
-    assert!(rt; left.notes.given() == notes, "other notes");
+fn expect_end(left: &Left, status: u8, taken: u64, notes: &[u8]) -> Result<(), Fail> {
+    let code = left.ended.status.code();
+    if code != status {
+        return Err(Fail::new(format_args!("status {code} and not {status}")));
+    }
+    if left.ended.taken != taken {
+        return Err(Fail::new(format_args!("{} bytes taken and not {taken}", left.ended.taken)));
+    }
+    if left.notes.given() != notes {
+        return Err(Fail::new("other notes"));
+    }
+    Ok(())
 }
 
 /// Looks at all that a run left.
 pub fn expect_left(
-    rt: &impl Abort,
     left: &Left,
     status: u8,
     taken: u64,
     output: &[u8],
     notes: &[u8],
-) {
-    expect_end(rt, left, status, taken, notes);
-    assert!(rt; left.output.given() == output, "other output");
-}
-
-/// Runs a row over a tree, and looks at what it leaves.
-pub fn expect_over(
-    rt: &(impl Abort + AllocGlobal),
-    row: &Row,
-    tree: &mut MemTree,
 ) -> Result<(), Fail> {
-    let output = joined(rt.alloc(), row.output)?;
-    let mut sent = Sent::whole(rt.alloc(), joined(rt.alloc(), row.sent)?);
-    sent.cuts.extend_from_slice(row.cuts)?;
-    let left = run(rt.alloc(), sent, row.fails, tree)?;
-    expect_left(
-        rt,
-        &left,
-        row.status,
-        row.taken,
-        output.as_slice(),
-        row.notes,
-    );
-    Ok(())
+    expect_end(left, status, taken, notes)?;
+    expect_output(left.output.given(), output)
 }
 
-/// The same over a workspace without targets.
-pub fn expect(rt: &(impl Abort + AllocGlobal), row: &Row) -> Result<(), Fail> {
-    let mut tree = tree(rt.alloc(), WORKSPACE_ALONE, &[], &[])?;
-    expect_over(rt, row, &mut tree)
+fn expect_output(given: &[u8], output: &[u8]) -> Result<(), Fail> {
+    if given != output {
+        return Err(Fail::new("other output"));
+    }
+    Ok(())
 }
 
 /// Runs a session that is taken whole over a tree, and looks at its status and its output.
 pub fn expect_whole(
-    rt: &(impl Abort + AllocGlobal),
+    alloc: Global,
     tree: &mut MemTree,
     session: Sent,
     status: u8,
     output: &[u8],
 ) -> Result<(), Fail> {
     let taken = session.bytes.len() as u64;
-    let left = run(rt.alloc(), session, NOTHING_FAILS, tree)?;
-    expect_left(rt, &left, status, taken, output, b"");
-    Ok(())
+    let left = run(alloc, session, NOTHING_FAILS, tree)?;
+    expect_left(&left, status, taken, output, b"")
 }
 
 const HEAD: &str = "Content-Length: ";
@@ -293,17 +215,16 @@ fn without_tasks(alloc: Global, output: &[u8]) -> Result<String, Fail> {
 
 /// Runs a session as `expect_whole` does, and looks at its output but for what tells of tasks.
 pub fn expect_shown(
-    rt: &(impl Abort + AllocGlobal),
+    alloc: Global,
     tree: &mut MemTree,
     session: Sent,
     output: &[u8],
 ) -> Result<(), Fail> {
     let taken = session.bytes.len() as u64;
-    let left = run(rt.alloc(), session, NOTHING_FAILS, tree)?;
-    expect_end(rt, &left, 0, taken, b"");
-    let shown = without_tasks(rt.alloc(), left.output.given())?;
-    assert!(rt; shown.as_bytes() == output, "other output");
-    Ok(())
+    let left = run(alloc, session, NOTHING_FAILS, tree)?;
+    expect_end(&left, 0, taken, b"")?;
+    let shown = without_tasks(alloc, left.output.given())?;
+    expect_output(shown.as_bytes(), output)
 }
 
 /// A session that is opened, sends these requests, each when those before are answered, and is closed.
@@ -328,12 +249,12 @@ fn output_of(alloc: Global, answers: &[&[u8]]) -> Result<Vec<u8>, Fail> {
 /// Runs a session that is opened, sends these requests and is closed over a tree, and looks at what is answered and
 /// published between.
 pub fn expect_answers(
-    rt: &(impl Abort + AllocGlobal),
+    alloc: Global,
     tree: &mut MemTree,
     requests: &[&[u8]],
     answers: &[&[u8]],
 ) -> Result<(), Fail> {
-    let output = output_of(rt.alloc(), answers)?;
-    let session = session_of(rt.alloc(), requests)?;
-    expect_shown(rt, tree, session, output.as_slice())
+    let output = output_of(alloc, answers)?;
+    let session = session_of(alloc, requests)?;
+    expect_shown(alloc, tree, session, output.as_slice())
 }

@@ -1,9 +1,7 @@
 //! Sessions with reloads that change nothing: the file is refused, can't be read, or says the same.
-use crate::cancels::{ROW, Row, expect_longer};
-use crate::reloads::{BUILT, Behind, expect_behind};
-use crate::runs::WORKSPACE_FILE;
+use crate::reloads::BUILT;
+use session_runs::{Behind, ROW, Row, WORKSPACE_FILE, expect_behind, expect_longer};
 use std::alloc::Global;
-use std::process::Abort;
 use std::test::Fail;
 
 /// The two targets in other words: members in another order, ones that say nothing, and blanks.
@@ -143,13 +141,8 @@ result 2 1
 };
 
 /// Whether a reload that finds this file behind what was built answers so. Either way the workspace stays as it was.
-fn expect_file(
-    rt: &(impl Abort + AllocGlobal),
-    built: &Row<'_>,
-    text: &str,
-    answer: &str,
-) -> Result<(), Fail> {
-    let told = format!(in rt.alloc();
+fn expect_file(alloc: Global, built: &Row<'_>, text: &str, answer: &str) -> Result<(), Fail> {
+    let told = format!(in alloc;
         "{answer}
 targets 4 app application
 start r5
@@ -165,7 +158,7 @@ null 6
         ..*built
     };
     expect_longer(
-        rt,
+        alloc,
         &row,
         "targets 4\ncompile 5 app\nshutdown 6\nexit\n",
         told.as_str(),
@@ -174,14 +167,14 @@ null 6
 
 #[test]
 fn reloads_within_limits(rt: HostRuntime) -> Result<(), Fail> {
-    for (bytes, targets, modules, answer) in SIZES {
+    for &(bytes, targets, modules, answer) in &SIZES {
         let text = file_of(rt.alloc(), bytes, targets, modules)?;
-        expect_file(&rt, &BUILT_ALONE, text.as_str(), answer)?;
+        expect_file(rt.alloc(), &BUILT_ALONE, text.as_str(), answer)?;
     }
     Ok(())
 }
 
 #[test]
 fn changes_nothing(rt: HostRuntime) -> Result<(), Fail> {
-    expect_behind(&rt, NOTHING_CHANGES)
+    expect_behind(rt.alloc(), NOTHING_CHANGES)
 }

@@ -2,16 +2,12 @@
 //!
 //! The first call of the tree is that of initialize. Each reload that is taken up makes one more, and so does each compile of
 //! known targets.
-use crate::cancels::{ROW, Row, expect_longer, expect_rows};
-use crate::runs::{APP_ALONE, Files, WORKSPACE_FILE};
-use std::process::Abort;
+use session_runs::{
+    A, APP_ALONE, Behind, Files, ODD_Z, ROW, Row, WORKSPACE_FILE, expect_behind, expect_rows,
+};
 use std::test::Fail;
 
-pub const A: (&[u8], &[u8]) = (b"A.Mod", b"MODULE A; END A.");
-
 pub const ODD_A: &[u8] = b"MODULE A; END Y.";
-
-pub const ODD_Z: (&[u8], &[u8]) = (b"Z.Mod", b"MODULE Z; END Y.");
 
 pub const APP_AND_OLD: &[u8] =
     b"{\"version\":1,\"targets\":[{\"name\":\"app\",\"kind\":\"application\",\"modules\":[\"A.Mod\"],\"main\":\"A\"},{\"name\":\"old\",\"kind\":\"library\",\"modules\":[\"Z.Mod\"]}]}";
@@ -64,9 +60,6 @@ result 2 2
 ",
     ..ROW
 };
-
-/// What a front meets, what is sent behind it, and what that writes.
-pub type Behind = (Row<'static>, &'static str, &'static str);
 
 /// Reloads by which targets go, come back and change.
 const TARGETS_CHANGE: &[Behind] = &[
@@ -473,21 +466,13 @@ null 7
 
 const ROWS: &[Row<'static>] = &[IMPORT_GOES, WORDS_CHANGE];
 
-/// Runs each session, and looks at all that it is answered.
-pub fn expect_behind(rt: &(impl Abort + AllocGlobal), rows: &[Behind]) -> Result<(), Fail> {
-    for (row, sent, told) in rows {
-        expect_longer(rt, row, sent, told)?;
-    }
-    Ok(())
-}
-
 #[test]
 fn reloads_behind_a_build(rt: HostRuntime) -> Result<(), Fail> {
-    expect_behind(&rt, TARGETS_CHANGE)?;
-    expect_behind(&rt, DOCUMENTS_CHANGE)
+    expect_behind(rt.alloc(), TARGETS_CHANGE)?;
+    expect_behind(rt.alloc(), DOCUMENTS_CHANGE)
 }
 
 #[test]
 fn reloads(rt: HostRuntime) -> Result<(), Fail> {
-    expect_rows(&rt, ROWS)
+    expect_rows(rt.alloc(), ROWS)
 }

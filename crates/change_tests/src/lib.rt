@@ -1,0 +1,16 @@
+//! The rows of sessions whose workspace changes, or whose checks are forgotten: reloads and cleanings.
+//!
+//! It has no code of its own: a crate with tests is proved twice, so these stand above the crates that they are of. Begin
+//! with `reloads.rt`.
+#![tactic(auto)]
+
+#[cfg(test)]
+mod cleanings;
+#[cfg(test)]
+mod moves;
+#[cfg(test)]
+mod reloads;
+#[cfg(test)]
+mod unchanged;
+#[cfg(test)]
+mod waiting;

@@ -1,0 +1,22 @@
+//! Runs of `serve` over a source, a tree and sinks in memory, and what they must leave.
+//!
+//! For the rows of whole sessions in crates above; it stands on `bsp_cli` and `bsp_edge`, and on `session_lines` for what is
+//! sent and told. Begin with `row.rt`, for a session as lines.
+#![tactic(auto)]
+
+mod crews;
+mod files;
+mod row;
+mod runs;
+mod steps;
+
+pub use crews::{CountingCrew, KeenCrew};
+pub use files::{A, APP, APP_ALONE, Files, ODD_Z, WORKSPACE, WORKSPACE_ALONE, WORKSPACE_FILE};
+pub use row::{
+    Behind, ROW, Row, expect_behind, expect_by, expect_longer, expect_row, expect_rows, expect_told,
+};
+pub use runs::{
+    Fails, Left, NOTHING_FAILS, changing_tree, expect_answers, expect_left, expect_shown,
+    expect_whole, file, run, run_by, session_of, tree,
+};
+pub use steps::{Case, OF_APP, Step, expect_case};
