@@ -24,7 +24,7 @@ fn finds_by_names_and_numbers(rt: HostRuntime) -> Result<(), Fail> {
     let here = pair(alloc, "lib", "A.Mod")?;
     let cache = importing_cache(alloc, &here)?;
     let held = held_of(alloc, TEXT)?;
-    for (name, number, want) in ROWS {
+    for &(name, number, want) in &ROWS {
         let imports = [(Name::new(alloc, name.as_bytes())?, number)];
         assert_eq!(rt;
             cache.look(&here, &held, &imports).is_some(),

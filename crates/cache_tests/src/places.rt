@@ -29,7 +29,7 @@ const ROWS: [(&str, &str); 9] = [
 #[test]
 fn finds_two_texts_of_a_pair(rt: HostRuntime) -> Result<(), Fail> {
     let alloc = rt.alloc();
-    for (acts, want) in ROWS {
+    for &(acts, want) in &ROWS {
         let here = pair(alloc, "lib", "A.Mod")?;
         let mut cache = Cache::new(alloc);
         put_all(alloc, &mut cache, &here, acts)?;
@@ -54,7 +54,7 @@ fn finds_nothing_of_other_pairs(rt: HostRuntime) -> Result<(), Fail> {
 /// Two texts of each of three pairs.
 fn three_pairs(alloc: Global) -> Result<Cache, Fail> {
     let mut cache = Cache::new(alloc);
-    for (target, path) in PAIRS {
+    for &(target, path) in &PAIRS {
         let here = pair(alloc, target, path)?;
         put_all(alloc, &mut cache, &here, "0b")?;
     }
@@ -102,7 +102,7 @@ fn put(alloc: Global, cache: &mut Cache, here: &PairKey, act: u8) -> Result<(), 
 /// For each text whether it is found.
 fn found(alloc: Global, cache: &Cache, here: &PairKey) -> Result<String, Fail> {
     let mut out = String::new(alloc);
-    for text in TEXTS {
+    for &text in &TEXTS {
         let held = held_of(alloc, text)?;
         let mark = if cache.look(here, &held, &[]).is_some() {
             "1"
@@ -116,7 +116,7 @@ fn found(alloc: Global, cache: &Cache, here: &PairKey) -> Result<String, Fail> {
 
 fn found_of_all(alloc: Global, cache: &Cache) -> Result<String, Fail> {
     let mut out = String::new(alloc);
-    for (target, path) in PAIRS {
+    for &(target, path) in &PAIRS {
         let here = pair(alloc, target, path)?;
         out.push_str(found(alloc, cache, &here)?.as_str())?;
     }

@@ -71,7 +71,7 @@ const HELD: [(&str, &str, usize); 10] = [
 fn reads_a_folder(rt: HostRuntime) -> Result<(), Fail> {
     let folder = folder_name(&rt)?;
     make_folder(&rt, &folder)?;
-    for (name, want, size) in HELD {
+    for &(name, want, size) in &HELD {
         assert_eq!(rt; held_at(rt, &folder, name)?, (want, size), "{name}");
     }
     fs::remove_dir_all(&rt, folder.as_path())?;

@@ -26,7 +26,7 @@ const OFFSETS: [(&str, u32, u32, u32); 19] = [
 
 #[test]
 fn counts_lines_and_units(rt: HostRuntime) {
-    for (text, offset, line, character) in OFFSETS {
+    for &(text, offset, line, character) in &OFFSETS {
         assert!(rt; offset as usize <= text.len());
         let position = position_of(text.as_bytes(), offset);
         assert_eq!(rt;

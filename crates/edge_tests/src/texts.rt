@@ -41,7 +41,7 @@ const FILES: [(u8, usize, &str); 6] = [
 
 #[test]
 fn holds_what_files_have(rt: HostRuntime) -> Result<(), Fail> {
-    for (byte, count, want) in FILES {
+    for &(byte, count, want) in &FILES {
         let got = match Held::from_bytes(vec![in rt.alloc(); byte; count]?) {
             Held::Text(_) => "text",
             Held::Absent => "absent",

@@ -30,7 +30,7 @@ fn is_none(alloc: Global, bytes: &[u8]) -> Result<bool, NoMemory> {
 
 #[test]
 fn no_keys(rt: HostRuntime) -> Result<(), Fail> {
-    for bytes in NO_KEYS {
+    for &bytes in &NO_KEYS {
         assert!(rt; is_none(rt.alloc(), bytes)?);
     }
     Ok(())

@@ -197,7 +197,7 @@ fn views(alloc: Global) -> Result<IndexMap<Name, View>, Fail> {
 fn tells_each_diagnostic(rt: HostRuntime) -> Result<(), Fail> {
     let alloc = rt.alloc();
     let views = views(alloc)?;
-    for (text, want) in TABLE {
+    for &(text, want) in &TABLE {
         let found = checked(alloc, text, &views)?;
         assert_eq!(rt;
             listed(alloc, found.list.as_slice())?.as_str(),

@@ -36,7 +36,7 @@ const TABLE: [(&str, &str); 8] = [
 fn shows_what_is_exported(rt: HostRuntime) -> Result<(), Fail> {
     let alloc = rt.alloc();
     let views = IndexMap::new(alloc);
-    for (text, want) in TABLE {
+    for &(text, want) in &TABLE {
         let found = checked(alloc, text, &views)?;
         assert_eq!(rt; shown(alloc, &found.view)?.as_str(), want, "{text:?}");
     }
@@ -75,7 +75,7 @@ fn sees_what_is_shown(rt: HostRuntime) -> Result<(), Fail> {
         Name::new(alloc, b"B".as_slice())?,
         checked(alloc, text, &none)?.view,
     )?;
-    for (text, want) in IMPORTING {
+    for &(text, want) in &IMPORTING {
         let found = checked(alloc, text, &views)?;
         assert_eq!(rt;
             listed(alloc, found.list.as_slice())?.as_str(),

@@ -22,7 +22,7 @@ const CALLING: &str = "MODULE A; IMPORT B; BEGIN B.P END A.";
 #[test]
 fn has_what_the_check_finds(rt: HostRuntime) -> Result<(), Fail> {
     let alloc = rt.alloc();
-    for (text, broken, want) in ROWS {
+    for &(text, broken, want) in &ROWS {
         let unread = job_by(alloc, text, broken, false)?.run(alloc);
         assert_eq!(rt; first_code(&unread)?, want, "{text:?}");
         let read = job_by(alloc, text, broken, true)?.run(alloc);

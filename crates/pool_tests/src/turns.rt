@@ -22,7 +22,7 @@ const OLDEST: [(&str, &str); 9] = [
 #[test]
 fn does_the_oldest(rt: HostRuntime) -> Result<(), Fail> {
     let alloc = rt.alloc();
-    for (acts, want) in OLDEST {
+    for &(acts, want) in &OLDEST {
         let mut crew = InlineCrew::new(alloc);
         assert_eq!(rt; told(alloc, &mut crew, acts)?.as_str(), want, "{acts:?}");
     }
@@ -44,7 +44,7 @@ const ORDERED: [(&[u32], &str, &str); 8] = [
 #[test]
 fn does_the_one_at_the_next_place(rt: HostRuntime) -> Result<(), Fail> {
     let alloc = rt.alloc();
-    for (order, acts, want) in ORDERED {
+    for &(order, acts, want) in &ORDERED {
         let mut crew = ScriptCrew::new(alloc, Vec::from_slice(alloc, order)?);
         assert_eq!(rt; told(alloc, &mut crew, acts)?.as_str(), want, "{acts:?}");
     }
@@ -64,7 +64,7 @@ const ENDS: [(&str, [u64; 4]); 6] = [
 #[test]
 fn tells_what_became_of_the_jobs(rt: HostRuntime) -> Result<(), Fail> {
     let alloc = rt.alloc();
-    for (acts, [given, collected, drained, left]) in ENDS {
+    for &(acts, [given, collected, drained, left]) in &ENDS {
         let want = Totals {
             given,
             collected,

@@ -232,13 +232,13 @@ const SETS: [(&[(Part, Part)], Part); 10] = [
 #[test]
 fn operators(rt: HostRuntime) -> Result<(), Fail> {
     let alloc = rt.alloc();
-    for (left, op, right, want) in BINARY {
+    for &(left, op, right, want) in &BINARY {
         let left = Box::new(alloc, expression(alloc, left)?)?;
         let right = Box::new(alloc, expression(alloc, right)?)?;
         let got = fold_const(alloc, &ConstExpr::Binary { op, left, right });
         assert!(rt; is(&got, want), "{op:?} gives {want:?}");
     }
-    for (op, given, want) in UNARY {
+    for &(op, given, want) in &UNARY {
         let given = Box::new(alloc, expression(alloc, given)?)?;
         let got = fold_const(alloc, &ConstExpr::Unary { op, part: given });
         assert!(rt; is(&got, want), "{op:?} gives {want:?}");
@@ -249,7 +249,7 @@ fn operators(rt: HostRuntime) -> Result<(), Fail> {
 #[test]
 fn calls(rt: HostRuntime) -> Result<(), Fail> {
     let alloc = rt.alloc();
-    for (name, given, want) in CALLS {
+    for &(name, given, want) in &CALLS {
         let function = Name::new(alloc, name.as_bytes())?;
         let parts = expressions(alloc, given)?;
         let got = fold_const(alloc, &ConstExpr::Call { function, parts });
@@ -261,7 +261,7 @@ fn calls(rt: HostRuntime) -> Result<(), Fail> {
 #[test]
 fn sets(rt: HostRuntime) -> Result<(), Fail> {
     let alloc = rt.alloc();
-    for (given, want) in SETS {
+    for &(given, want) in &SETS {
         let mut ranges = Vec::new(alloc);
         for (low, high) in given {
             ranges.push((expression(alloc, *low)?, expression(alloc, *high)?))?;
