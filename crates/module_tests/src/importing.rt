@@ -11,7 +11,7 @@ const B: &str =
     "MODULE B; CONST k* = 3; h = 1; TYPE T* = RECORD x*: INTEGER; y: CHAR END; S* = INTEGER; VAR v*: INTEGER; PROCEDURE F*(n: INTEGER): INTEGER; RETURN n END F; END B.";
 
 /// Names: of the module, of imports, declared twice, unknown, and no type.
-const NAMES: [(&str, &str); 50] = [
+const NAMES: [(&str, &str); 52] = [
     ("MODULE A; END A.", ""),
     ("MODULE B; END B.", "0:7-0:8 moduleName;"),
     ("MODULE A; END B.", "0:14-0:15 endName;"),
@@ -164,6 +164,14 @@ const NAMES: [(&str, &str); 50] = [
         "0:27-0:28 notType; 0:35-0:36 notType; 0:43-0:44 notType; 0:51-0:52 notType;",
     ),
     ("MODULE A; IMPORT B; VAR x: B.T; y: B.S; END A.", ""),
+    (
+        "MODULE A; TYPE T = RECORD a, b: CHAR END; U = RECORD (T) c, d, a, e, f, b: CHAR END; V = RECORD (U) g, h, i, j, k, d, a, g: CHAR END; END A.",
+        "0:63-0:64 nameTwice; 0:72-0:73 nameTwice; 0:115-0:116 nameTwice; 0:118-0:119 nameTwice; 0:121-0:122 nameTwice;",
+    ),
+    (
+        "MODULE A; IMPORT B; TYPE U = RECORD (B.T) p, q, y, r, s, x: CHAR END; END A.",
+        "0:57-0:58 nameTwice;",
+    ),
 ];
 
 /// Constant expressions: what they are built of, their range, operands, calls and selectors.
@@ -322,6 +330,27 @@ const CONSTANTS: [(&str, &str); 38] = [
     ),
 ];
 
+/// Limits of weights: an interface of 65,536 and one of 65,537, and types of 4,096 and 4,097. T10 has a weight of 4,095.
+const WEIGHTS: [(&str, &str); 4] = [
+    (
+        "MODULE A; TYPE T0 = RECORD a*, b*: INTEGER END; T1 = RECORD a*, b*: T0 END; T2 = RECORD a*, b*: T1 END; T3 = RECORD a*, b*: T2 END; T4 = RECORD a*, b*: T3 END; T5 = RECORD a*, b*: T4 END; T6 = RECORD a*, b*: T5 END; T7 = RECORD a*, b*: T6 END; T8 = RECORD a*, b*: T7 END; T9 = RECORD a*, b*: T8 END; T10 = RECORD a*, b*: T9 END; VAR a*, b*, c*, d*, e*, f*, g*, h*, i*, j*, k*, l*, m*, n*, o*, p*: T10; END A.",
+        "",
+    ),
+    (
+        "MODULE A; CONST z* = 1; TYPE T0 = RECORD a*, b*: INTEGER END; T1 = RECORD a*, b*: T0 END; T2 = RECORD a*, b*: T1 END; T3 = RECORD a*, b*: T2 END; T4 = RECORD a*, b*: T3 END; T5 = RECORD a*, b*: T4 END; T6 = RECORD a*, b*: T5 END; T7 = RECORD a*, b*: T6 END; T8 = RECORD a*, b*: T7 END; T9 = RECORD a*, b*: T8 END; T10 = RECORD a*, b*: T9 END; VAR a*, b*, c*, d*, e*, f*, g*, h*, i*, j*, k*, l*, m*, n*, o*, p*: T10; END A.",
+        "0:7-0:8 interfaceTooLarge;",
+    ),
+    (
+        "MODULE A; TYPE T0 = RECORD a*, b*: INTEGER END; T1 = RECORD a*, b*: T0 END; T2 = RECORD a*, b*: T1 END; T3 = RECORD a*, b*: T2 END; T4 = RECORD a*, b*: T3 END; T5 = RECORD a*, b*: T4 END; T6 = RECORD a*, b*: T5 END; T7 = RECORD a*, b*: T6 END; T8 = RECORD a*, b*: T7 END; T9 = RECORD a*, b*: T8 END; T10 = RECORD a*, b*: T9 END; T11 = RECORD a*: T10 END; T12 = RECORD a*: T11 END; END A.",
+        "0:361-0:367 typeTooLarge;",
+    ),
+    // What is unknown weighs nothing.
+    (
+        "MODULE A; TYPE T0 = RECORD a*, b*: INTEGER END; T1 = RECORD a*, b*: T0 END; T2 = RECORD a*, b*: T1 END; T3 = RECORD a*, b*: T2 END; T4 = RECORD a*, b*: T3 END; T5 = RECORD a*, b*: T4 END; T6 = RECORD a*, b*: T5 END; T7 = RECORD a*, b*: T6 END; T8 = RECORD a*, b*: T7 END; T9 = RECORD a*, b*: T8 END; T10 = RECORD a*, b*: T9 END; T11 = RECORD a*: T10; b*: Nope END; END A.",
+        "0:355-0:359 noName;",
+    ),
+];
+
 /// Types: their limits, bases and results, and parts that are unknown.
 const TYPES: [(&str, &str); 13] = [
     (
@@ -416,4 +445,9 @@ fn tells_of_constants(rt: HostRuntime) -> Result<(), Fail> {
 #[test]
 fn tells_of_types(rt: HostRuntime) -> Result<(), Fail> {
     tells(rt, TYPES.as_slice())
+}
+
+#[test]
+fn tells_of_weights(rt: HostRuntime) -> Result<(), Fail> {
+    tells(rt, WEIGHTS.as_slice())
 }

@@ -5,12 +5,12 @@ use ob_text::Name;
 use oberon_types::View;
 use std::test::Fail;
 
-/// A text of A.Mod and what it shows.
-const TABLE: [(&str, &str); 8] = [
+/// A text of A.Mod and what it shows. Only a module that is broken has diagnostics.
+const TABLE: [(&str, &str); 10] = [
     ("MODULE A; END A.", ""),
     (
         "MODULE A; CONST K* = 2; L* = K * 3; TYPE T* = RECORD x*: INTEGER; y: CHAR END; END A.",
-        "K = 2;L = 6;T type record of size 2 x;",
+        "K = 2;L = 6;T type record A.T of size 2, x INTEGER;",
     ),
     (
         "MODULE A; CONST b* = 1; a* = 2; c = 3; END A.",
@@ -19,6 +19,14 @@ const TABLE: [(&str, &str); 8] = [
     (
         "MODULE A; VAR v*, w: ARRAY 3 OF CHAR; END A.",
         "v variable array of 3;",
+    ),
+    (
+        "MODULE A; TYPE T* = RECORD x*: INTEGER END; U* = RECORD (T) y*: CHAR; z: SET; t*: T END; END A.",
+        "T type record A.T of size 1, x INTEGER;U type record A.U of size 4 over A.T, y CHAR, t record A.T;",
+    ),
+    (
+        "MODULE A; CONST a* = -7 DIV 2; b* = (-7) DIV 2; c* = -7 MOD 2; d* = (-7) MOD 2; END A.",
+        "a = -3;b = -4;c = -1;d = 1;",
     ),
     (
         "MODULE A; PROCEDURE P*(x, y: INTEGER; VAR z: CHAR); END P; END A.",
@@ -39,6 +47,7 @@ fn shows_what_is_exported(rt: HostRuntime) -> Result<(), Fail> {
     for &(text, want) in &TABLE {
         let found = checked(alloc, text, &views)?;
         assert_eq!(rt; shown(alloc, &found.view)?.as_str(), want, "{text:?}");
+        assert_eq!(rt; found.list.is_empty(), want != "broken", "{text:?}");
     }
     Ok(())
 }

@@ -2,7 +2,7 @@
 use indexmap::IndexMap;
 use ob_text::{Diagnostic, Held, Name, Text};
 use oberon_module::{Checked, check_module};
-use oberon_types::{Entity, Ty, Value, View};
+use oberon_types::{Entity, Origin, RecordTy, Ty, Value, View};
 use std::alloc::{AllocError, Global};
 use std::test::Fail;
 
@@ -96,17 +96,51 @@ fn put_value(out: &mut String, value: &Value) -> Result<(), AllocError> {
 
 fn put_type(out: &mut String, kind: &str, ty: &Ty) -> Result<(), AllocError> {
     out.push_str(kind)?;
-    match ty {
-        Ty::Record(given) => {
-            let size = given.size;
-            write!(out, " record of size {size}")?;
-            for field in &given.fields {
-                out.push_str(" ")?;
-                put_name(out, &field.name)?;
-            }
-            out.push_str(";")
-        }
-        Ty::Array { length, .. } => write!(out, " array of {length};"),
-        _ => out.push_str(";"),
+    put_kind(out, ty)?;
+    if let Ty::Record(given) = ty {
+        put_parts(out, given)?;
     }
+    out.push_str(";")
+}
+
+/// A type without its parts: a record as its origin.
+fn put_kind(out: &mut String, ty: &Ty) -> Result<(), AllocError> {
+    match ty {
+        Ty::Unknown => out.push_str(" unknown"),
+        Ty::Integer => out.push_str(" INTEGER"),
+        Ty::Byte => out.push_str(" BYTE"),
+        Ty::Char => out.push_str(" CHAR"),
+        Ty::Boolean => out.push_str(" BOOLEAN"),
+        Ty::Set => out.push_str(" SET"),
+        Ty::Str(count) => write!(out, " string of {count}"),
+        Ty::Array { length, .. } => write!(out, " array of {length}"),
+        Ty::Open { .. } => out.push_str(" open array"),
+        Ty::Record(given) => {
+            out.push_str(" record ")?;
+            put_origin(out, &given.origin)
+        }
+    }
+}
+
+/// The module of an origin and its name.
+fn put_origin(out: &mut String, origin: &Origin) -> Result<(), AllocError> {
+    put_name(out, &origin.module)?;
+    out.push_str(".")?;
+    put_name(out, &origin.name)
+}
+
+/// The size of a record, its base and its fields.
+fn put_parts(out: &mut String, given: &RecordTy) -> Result<(), AllocError> {
+    let size = given.size;
+    write!(out, " of size {size}")?;
+    if let Some(base) = &given.base {
+        out.push_str(" over ")?;
+        put_origin(out, &base.origin)?;
+    }
+    for field in &given.fields {
+        out.push_str(", ")?;
+        put_name(out, &field.name)?;
+        put_kind(out, &field.ty)?;
+    }
+    Ok(())
 }

@@ -1,13 +1,18 @@
 -- Texts that pass a test byte by byte are ASCII, and so UTF-8.
-use Rattle.std.proofs.Common.{◌≡◌, ℕ, ◌<◌, true, List, arith}
+use Rattle.std.proofs.Common.{◌≡◌, ℕ, ◌<◌, Bool, true, List, arith}
 use Rattle.std.specs.Char.{is_ascii, is_ascii_graphic}
 use Rattle.std.specs.Str.{IsAscii, IsUtf8}
 use Rattle.std.proofs.lemmas.Bool.Decides.{nat_tests}
 use Rattle.std.proofs.lemmas.List.Elements.{All-weaker}
 use Rattle.std.proofs.lemmas.List.Sums.{AllPass-from_list_all}
+use Rattle.std.specs.List.{list_all}
 use Rattle.std.proofs.lemmas.Str.{IsUtf8-from_ascii}
 use Rattle.std.proofs.lemmas.Str.Ascii.{IsAscii-from_all}
-use Rattle.ob_text.specs.Ascii.{all_ascii, IsGraphic}
+use Rattle.ob_text.specs.Ascii.{IsGraphic}
+
+-- each byte is a character of ASCII
+abbrev pub all_ascii : List ℕ → Bool
+all_ascii text = list_all is_ascii text
 
 byte_ascii : (byte : ℕ) → is_ascii byte ≡ true → byte < 128
 byte_ascii byte is = grind (arith, nat_tests)

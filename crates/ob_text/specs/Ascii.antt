@@ -1,16 +1,12 @@
 -- Texts of ASCII, and how long they are. A text is its bytes.
-use Rattle.std.specs.Prelude.{◌≡◌, ℕ, ◌≤◌, Bool, true, List, length}
-use Rattle.std.specs.Char.{is_ascii, is_ascii_graphic}
+use Rattle.std.specs.Prelude.{◌≡◌, ℕ, ◌≤◌, true, List, length}
+use Rattle.std.specs.Char.{is_ascii_graphic}
 use Rattle.std.specs.List.{list_all}
 use Rattle.std.specs.Str.{IsAscii}
 
 -- it has at most so many bytes
 abbrev pub IsWithin : ℕ → List ℕ → Type 0
 IsWithin limit text = length text ≤ limit
-
--- each byte is a character of ASCII
-abbrev pub all_ascii : List ℕ → Bool
-all_ascii text = list_all is_ascii text
 
 -- each byte is a printing character of ASCII, and no blank
 abbrev pub IsGraphic : List ℕ → Type 0

@@ -3,6 +3,7 @@ ghost use Rattle.std.proofs.Common.{rules};
 ghost use Rattle.std.specs.Hash as fed;
 ghost use Rattle.std.specs.Cmp.Rules.{comparing, hashing};
 ghost use Rattle.std.specs.Cmp.Lexicographic.{pointwise};
+ghost use Rattle.std.specs.Str.{IsUtf8};
 
 use crate::no_memory::NoMemory;
 use std::alloc::Global;
@@ -73,6 +74,14 @@ impl<K> Bytes<K> {
         ensures { result.now ≡ self.now }
     {
         self.items.as_slice()
+    }
+
+    /// The characters of bytes that are UTF-8. They aren't looked at.
+    pub fn as_str(&self) -> &str
+        requires { IsUtf8 self.now }
+        ensures { result.now ≡ self.now }
+    {
+        unsafe { str::from_utf8_unchecked(self.as_slice()) }
     }
 
     /// These bytes, and then others.

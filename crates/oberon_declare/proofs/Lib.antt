@@ -1,5 +1,6 @@
 pub mod ArrayLaws
 pub mod HeadingLaws
+pub mod InheritedLaws
 pub mod ListLaws
 pub mod OriginLaws
 pub mod RecordLaws

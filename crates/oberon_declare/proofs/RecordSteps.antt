@@ -12,7 +12,7 @@ use Rattle.oberon_infer.specs.declared.said.Said.{Said as OwnSaid}
 use Rattle.oberon_infer.specs.Adds.{Adds}
 use Rattle.oberon_infer.specs.Memory.{plain_said}
 use Rattle.oberon_declare.specs.declared.records.Made.{Made}
-use Rattle.oberon_declare.specs.declared.records.Owner.{Owner}
+use Rattle.oberon_declare.specs.declared.owner.Owner.{Owner}
 use Rattle.oberon_declare.specs.Records.{IsIndexed, AddsFields}
 
 pub taken_adds : (o : Owner) (m : Made) (before behind : List OwnSaid) (d : IdentDef) (left : List IdentDef) (t : TyTree) → IsIndexed o m → is_taken o.me.now o.origin.now (base_option o.base) (fields_list m.fields.items) d.name.name ≡ true → Adds before behind (named_row true d.name codes_of.NameTwice) → AddsFields o m m before behind (d ∷ left) left t

@@ -1,5 +1,6 @@
 pub mod Arrays
 pub mod Headings
+pub mod Inherited
 pub mod Origins
 pub mod Records
 pub mod Variables

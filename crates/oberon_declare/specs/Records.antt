@@ -16,7 +16,7 @@ use Rattle.oberon_rules.specs.TypeRules.{BaseMeant, without_base, with_base, unc
 use Rattle.oberon_infer.specs.declared.said.Said.{Said as OwnSaid}
 use Rattle.oberon_infer.specs.Adds.{Goes}
 use Rattle.oberon_declare.specs.declared.records.FoundBase.{FoundBase}
-use Rattle.oberon_declare.specs.declared.records.Owner.{Owner}
+use Rattle.oberon_declare.specs.declared.owner.Owner.{Owner}
 use Rattle.oberon_declare.specs.declared.records.Made.{Made}
 
 -- ---- bases

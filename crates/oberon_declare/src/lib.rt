@@ -10,7 +10,9 @@ mod arrays;
 mod declaration;
 mod declaring;
 mod headings;
+mod inherited;
 mod origins;
+mod owner;
 mod records;
 mod types;
 

@@ -5,18 +5,19 @@ ghost use Rattle.oberon_tree.specs.Memory.{ident_defs_tree};
 ghost use Rattle.oberon_types.specs.Memory.{plain_ty, base_option, fields_list};
 ghost use Rattle.indexmap.specs.IndexSet.{contains};
 ghost use Rattle.oberon_types.specs.Types.{same_name};
-ghost use Rattle.oberon_types.specs.Sizes.{sees, field_of_base};
+ghost use Rattle.oberon_types.specs.Sizes.{sees};
 ghost use Rattle.oberon_rules.specs.TypeRules.{BaseMeant, base_is, base_says, base_meant, is_bad_base, first_new, is_taken, add_field, ident_defs, record_is, record_row};
 ghost use Rattle.oberon_infer.specs.Memory.{plain_scopes};
 ghost use Rattle.oberon_infer.specs.Adds.{Adds};
 ghost use Rattle.oberon_declare.specs.Records.{IsBase, IsIndexed, AddsFields};
 
 use crate::arrays::known_or_large;
+use crate::owner::{Owner, is_in_base};
 use indexmap::IndexSet;
 use ob_text::{Code, Name, NoMemory, Span};
 use oberon_infer::{Said, Scopes, add_named, last_name, type_named};
 use oberon_tree::{Base, IdentDef, IdentDefs};
-use oberon_types::{Field, Origin, RecordTy, Ty, field_of, record_type, sees};
+use oberon_types::{Field, Origin, RecordTy, Ty, record_type, sees};
 use std::alloc::Global;
 use std::sync::Arc;
 
@@ -26,14 +27,6 @@ pub struct FoundBase {
     pub base: Option<Arc<RecordTy>>,
     /// Whether a record can be made: there is no base, or it is a record.
     pub usable: bool,
-}
-
-/// Whose fields are declared.
-#[derive(Drop)]
-pub struct Owner<'o> {
-    pub me: &'o Name,
-    pub origin: &'o Origin,
-    pub base: Option<Arc<RecordTy>>,
 }
 
 /// The fields that are declared so far, and the names of those that are visible.
@@ -116,17 +109,7 @@ fn is_taken(owner: &Owner, made: &Made, name: &Name) -> bool
     ensures { result
         ≡ is_taken owner.now.me.now owner.now.origin.now (base_option owner.now.base) (fields_list made.now.fields.items) name.now }
 {
-    made.names.contains(name) || is_in_base(owner.me, &owner.base, name)
-}
-
-/// Whether the base has a visible field of this name. A base has no more fields than its weight allows.
-fn is_in_base(me: &Name, base: &Option<Arc<RecordTy>>, name: &Name) -> bool
-    ensures { result ≡ is_some (field_of_base me.now name.now (base_option base.now)) }
-{
-    match base {
-        Some(base) => field_of(me, name, base).is_some(),
-        None => false,
-    }
+    made.names.contains(name) || is_in_base(owner, name)
 }
 
 /// The first name of a list that declares something.

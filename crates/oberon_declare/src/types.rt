@@ -10,10 +10,10 @@ ghost use Rattle.oberon_infer.specs.Adds.{Adds};
 ghost use Rattle.oberon_declare.specs.Records.{IsIndexed, array_type_tree, list_type, list_type_says};
 
 use crate::arrays::array;
+use crate::inherited::inherited_names;
 use crate::origins::{copy_origin, element_origin, field_origin, origin_at};
-use crate::records::{
-    Made, Owner, add_fields, find_base, first_new, into_fields, no_fields, record_of,
-};
+use crate::owner::Owner;
+use crate::records::{Made, add_fields, find_base, first_new, into_fields, no_fields, record_of};
 use ob_text::{Name, NoMemory};
 use oberon_infer::{Said, Scopes, type_named};
 use oberon_tree::{ArrayType, FieldLists, Fields, Ident, IdentDef, RecordType, Type};
@@ -94,10 +94,13 @@ fn of_record<'a>(
     ensures says { OnOk result (Adds said.old.items said.new.items (type_says me.now (plain_scopes scopes.now) origin.now (record_type (record_tree tree.now)))) }
 {
     let found = find_base(scopes, &tree.base, said)?;
+    let base = copy_base(&found.base)?;
+    let inherited = inherited_names(alloc, me, &base, &tree.fields)?;
     let owner = Owner {
         me,
         origin,
-        base: copy_base(&found.base)?,
+        base,
+        inherited,
     };
     let fields = of_lists(alloc, scopes, &owner, &tree.fields, said)?;
     let origin = copy_origin(alloc, origin)?;

@@ -37,8 +37,8 @@ pub(crate) fn record_size(given: &RecordTy) -> u32
     given.size
 }
 
-/// Whether the type is above a limit, as far as the module of this stem sees it. Takes no memory, and looks at
-/// no more than the limit allows.
+/// Whether the type is above a limit, as far as the module of this stem sees it. Takes no memory. Of what weighs
+/// something it looks at no more than the limit allows.
 pub fn too_large(me: &Name, ty: &Ty) -> bool
     ensures { result ≡ too_large me.now (plain_ty ty.now) }
 {

@@ -2,7 +2,7 @@ use Rattle.std.specs.Prelude.{List}
 use Rattle.std.specs.Option.{option_copied}
 use Rattle.std.proofs.Common.{sym, ◌∙◌, ap}
 use Rattle.std.proofs.lemmas.List.{at_drop_all}
-use Rattle.std.proofs.lemmas.Result.{on_ok_weaker}
+use Rattle.std.proofs.lemmas.Result.{IfOk-weaker, on_ok_weaker}
 use Rattle.oberon_tree.specs.declared.types.FieldLists.{out-FieldLists}
 use Rattle.oberon_tree.specs.declared.types.NextFields.{NextFields}
 use Rattle.oberon_tree.specs.declared.types.RecordType.{out-RecordType}
@@ -11,10 +11,10 @@ use Rattle.oberon_types.specs.declared.origin.Origin.{Origin}
 use Rattle.oberon_types.specs.declared.ty.Field.{Field}
 use Rattle.oberon_types.specs.Memory.{plain_ty, base_option, fields_list}
 use Rattle.oberon_types.specs.Types.{TyTree}
-use Rattle.oberon_rules.specs.TypeRules.{element_origin, array_says, base_is, base_says, record_row, fields_say, more_fields_are, more_fields_say, list_is, list_says, type_is, type_says}
+use Rattle.oberon_rules.specs.TypeRules.{element_origin, array_says, base_is, base_says, record_is, record_row, fields_say, more_fields_are, more_fields_say, list_is, list_says, type_is, type_says}
 use Rattle.oberon_infer.specs.Memory.{plain_scopes}
 use Rattle.oberon_declare.proofs.SaidLaws.{both_add, three_add, said_all, goes_on_as}
-use Rattle.oberon_declare.proofs.TypeLaws.{record_speaks, lists_stand, lists_speak, list_loop, list_loop_says, list_stands, list_speaks}
+use Rattle.oberon_declare.proofs.TypeLaws.{record_stands, record_speaks, lists_stand, lists_speak, list_loop, list_loop_says, list_stands, list_speaks}
 use Rattle.oberon_declare.proofs.types.+type_of.Goals as goal
 
 pub of_array-returns-clause-says : goal.of_array-returns-clause-says
@@ -28,17 +28,27 @@ of_array-returns-clause-says t c =
     ap (λ (o : Origin). type_says me s o (type_tree x.element) (array_says me s es (plain_ty c.in_ok-element.element) x.word rest)) c.in_ok-inner.ensures
     ∙ ap (λ (u : TyTree). type_says me s inside (type_tree x.element) (array_says me s es u x.word rest)) (c.in_ok-element.ensures.is ∙ ap (λ (o : Origin). type_is me s o (type_tree x.element)) c.in_ok-inner.ensures))) c.array.ensures.says
 
+pub of_record-returns-clause-is : goal.of_record-returns-clause-is
+of_record-returns-clause-is t c =
+    let me = c.args.me.now in
+    let s = plain_scopes c.args.scopes.now in
+    let o = c.args.origin.now in
+    let x = c.args.tree.now in
+    let m = base_is s (out-RecordType x).base in
+    let fs = fields_list c.in_ok-fields.fields.items in
+    IfOk-weaker c.record_of.result _ _ (λ ty is. record_stands me s o x (base_option c.in_ok-base.base) fs (plain_ty ty) (c.in_ok-base.ensures ∙ c.in_ok-found.ensures.is.record_is) c.in_ok-fields.ensures.is (is m c.in_ok-found.ensures.is ∙ ap (λ (p : Origin). record_is me p m fs) c.in_ok-origin.ensures)) c.record_of.ensures.is
+
 pub of_record-returns-clause-says : goal.of_record-returns-clause-says
 of_record-returns-clause-says t c =
     let me = c.args.me.now in
     let s = plain_scopes c.args.scopes.now in
     let x = c.args.tree.now in
     let m = base_is s (out-RecordType x).base in
-    let b = base_option c.in_ok-copy_base.field-0 in
+    let b = base_option c.in_ok-base.base in
     let fs = fields_list c.in_ok-fields.fields.items in
     on_ok_weaker c.record_of.result (λ a. three_add _ _ _ _ _ _ _ _ c.in_ok-found.ensures.says c.in_ok-fields.ensures.says (a m c.in_ok-found.ensures.is) (λ rest.
     ap (λ (o : Origin). base_says s (out-RecordType x).base (fields_say me s c.args.origin.now b (field_lists_option (out-RecordType x).fields) (record_row me o m fs (out-RecordType x).word rest))) c.in_ok-origin.ensures
-    ∙ record_speaks me s c.args.origin.now x b fs rest (c.in_ok-copy_base.ensures ∙ c.in_ok-found.ensures.is.record_is) c.in_ok-fields.ensures.is)) c.record_of.ensures.says
+    ∙ record_speaks me s c.args.origin.now x b fs rest (c.in_ok-base.ensures ∙ c.in_ok-found.ensures.is.record_is) c.in_ok-fields.ensures.is)) c.record_of.ensures.says
 
 pub of_list-returns-clause-is : goal.of_list-returns-clause-is
 of_list-returns-clause-is t c =
