@@ -7,7 +7,7 @@ use Rattle.rpc_frame.specs.declared.damage.Damage.{Damage}
 use Rattle.rpc_frame.specs.Damages.{HasDamage}
 use Rattle.rpc_frame.specs.Frames.{BeginsWith, HasNoFrame, IsSound, Waiting}
 use Rattle.rpc_frame.proofs.FrameLaws.{sound_part}
-use Rattle.bsp_cli.specs.Places.{EndsInLast, IsAt, WhereTold}
+use Rattle.bsp_cli.specs.Offsets.{EndsInLast, IsAt, WhereTold}
 use Rattle.bsp_cli.specs.Progress.{IsWithin, Passes, fed}
 
 -- a source that was read from came further by the piece

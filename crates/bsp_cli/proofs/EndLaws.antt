@@ -7,7 +7,7 @@ use Rattle.rpc_peer.specs.Meaning.{meaning}
 use Rattle.rpc_peer.specs.Said.{Said, request, notification, result, failure}
 use Rattle.session_law.specs.Methods.{is_named}
 use Rattle.session_law.specs.Order.{Event, take, ends, hand, write, end_of, takes_of}
-use Rattle.session_law.specs.Past.{exit_status, closed_after, end_status, status_after}
+use Rattle.session_law.specs.Past.{after, exit_status, end_status, status_after}
 
 some_apart : (m n : ℕ) → m < n → Some m ≡ Some n → ⊥
 some_apart m n less same = let equal : m ≡ n = cc in omega arith
@@ -27,7 +27,7 @@ exit_low (Err code) closed = tt
 -- a session that took an exit has the status 0 or 1
 pub exit_within : (order : List Event) → end_of order ≡ None → IfSome (status_after order) (λ status. status ≤ 1)
 exit_within [] none = tt
-exit_within (take body ∷ order) none = exit_low (meaning body) (closed_after order)
+exit_within (take body ∷ order) none = exit_low (meaning body) (after order).closed
 exit_within (ends how ∷ order) none = absurd (cc)
 exit_within (hand handed ∷ order) none = exit_within order none
 exit_within (write m ∷ order) none = exit_within order none
@@ -36,7 +36,7 @@ exit_within (write m ∷ order) none = exit_within order none
 pub failed_end : (order : List Event) → status_after order ≡ Some 3 → end_of order ≡ Some Failed
 failed_end [] three = absurd (cc)
 failed_end (take body ∷ order) three =
-    let low : 3 ≤ 1 = subst (λ found. IfSome found (λ status. status ≤ 1)) three (exit_low (meaning body) (closed_after order)) in
+    let low : 3 ≤ 1 = subst (λ found. IfSome found (λ status. status ≤ 1)) three (exit_low (meaning body) (after order).closed) in
     absurd (omega arith)
 failed_end (ends Border ∷ order) three = absurd (some_apart 1 3 (omega arith) three)
 failed_end (ends Damaged ∷ order) three = absurd (some_apart 2 3 (omega arith) three)

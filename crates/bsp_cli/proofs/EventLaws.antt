@@ -12,7 +12,7 @@ use Rattle.session_law.specs.declared.InputEnd.{InputEnd}
 use Rattle.session_law.specs.IsFramed.{text_of}
 use Rattle.session_law.specs.Order.{Event, onto, take, ends, hand, write, takes_of, writes_of, hands_of, failures_of, end_of}
 use Rattle.bsp_cli.proofs.OntoLaws.{writes_of-onto, hands_of-onto, failures_of-onto}
-use Rattle.bsp_cli.specs.Outside.{Told, Tells}
+use Rattle.bsp_cli.specs.Outside.{Told, ToldBy}
 use Rattle.bsp_cli.specs.Session.{RoseBy}
 
 -- ---- the later events stand in front
@@ -73,7 +73,7 @@ rose_append m n f g h first second =
       by_none = λ none. second.by_none (omega arith) ∙ first.by_none (omega arith);
     }
 
-pub tells_nothing : (now : Told) → Tells [] [] now now
+pub tells_nothing : (now : Told) → ToldBy [] [] now now
 tells_nothing now =
     record {
       hands = hands_nothing now.handed;
@@ -82,7 +82,7 @@ tells_nothing now =
     }
 
 -- events, and then others
-pub tells_append : (earlier later : List Event) (tail : List ℕ) (a b c : Told) → Tells earlier [] a b → Tells later tail b c → Tells (later ++ earlier) tail a c
+pub tells_append : (earlier later : List Event) (tail : List ℕ) (a b c : Told) → ToldBy earlier [] a b → ToldBy later tail b c → ToldBy (later ++ earlier) tail a c
 tells_append earlier later tail a b c first second =
     let texts : flat_map text_of (writes_of (later ++ earlier)) ≡ flat_map text_of (writes_of earlier) ++ flat_map text_of (writes_of later) =
     ap (flat_map text_of) (writes_of-append later earlier) ∙ flat_map-append text_of (writes_of earlier) (writes_of later) in
@@ -97,7 +97,7 @@ tells_append earlier later tail a b c first second =
 
 -- messages that are written
 pub tells_messages : (messages : List Said) (tail : List ℕ) (a b : Told) → Hands a.handed b.handed [] → RoseBy 0 a.faults b.faults → Gives a.given b.given (flat_map text_of messages ++ tail)
-    → Tells (onto messages []) tail a b
+    → ToldBy (onto messages []) tail a b
 tells_messages messages tail a b hands failures put =
     record {
       hands = subst (λ snapshots. Hands a.handed b.handed snapshots) (sym (hands_of-onto messages [])) hands;
@@ -107,7 +107,7 @@ tells_messages messages tail a b hands failures put =
 
 -- an event that is no write, and messages that are written behind it
 pub tells_onto : (event : Event) (messages : List Said) (tail : List ℕ) (a b : Told) → writes_of (event ∷ []) ≡ [] → Hands a.handed b.handed (hands_of (event ∷ [])) → RoseBy (failures_of (event ∷ [])) a.faults b.faults
-    → Gives a.given b.given (flat_map text_of messages ++ tail) → Tells (onto messages (event ∷ [])) tail a b
+    → Gives a.given b.given (flat_map text_of messages ++ tail) → ToldBy (onto messages (event ∷ [])) tail a b
 tells_onto event messages tail a b no_write hands failures put =
     let writes : writes_of (onto messages (event ∷ [])) ≡ messages = writes_of-onto messages (event ∷ []) ∙ ap (λ w. w ++ messages) no_write in
     record {

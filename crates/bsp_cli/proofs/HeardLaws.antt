@@ -10,7 +10,7 @@ use Rattle.session_law.specs.Verdicts.{IsBare}
 use Rattle.bsp_cli.proofs.PatienceLaws.{acts_so_far, at_end_on, begins, found_quiet, idle_here, patient_by, patient_on, piece_so_far, prompt_on, quiet_so_far}
 use Rattle.bsp_cli.specs.Outside.{Heard}
 use Rattle.bsp_cli.specs.Patience.{NoneOpen, OwesNothingAtOnce, Patient, PatientAtEnd, Prompt, StoodAt, WaitedLast}
-use Rattle.bsp_cli.specs.Places.{WhereTold}
+use Rattle.bsp_cli.specs.Offsets.{WhereTold}
 use Rattle.bsp_cli.specs.Progress.{SoFar}
 
 pub where_then : (P Q : Course → Course → Type 0) (start now : Option Course) → ((s n : Course) → P s n → Q s n) → WhereTold P start now → WhereTold Q start now

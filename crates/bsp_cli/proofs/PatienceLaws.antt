@@ -113,36 +113,36 @@ polls_set (x ∷ xs) zero p a b is =
     omega (arith, same)
 polls_set (x ∷ xs) (suc i) p a b is = omega (arith, polls_set xs i p a b is)
 
--- what a used poll leaves at each place
-used_at : (xs : List (ℕ × ℕ)) (i p a index place before : ℕ) → slice_get xs i ≡ Some (p, a + 1) → slice_get xs index ≡ Some (place, before)
-    → (after : ℕ) × (slice_get (set xs i (p, a)) index ≡ Some (place, after)) × (after ≤ before)
-used_at [] i p a index place before is was = absurd (nothing_there _ is)
-used_at (x ∷ xs) zero p a zero place before is was =
+-- what a used poll leaves at each offset
+used_at : (xs : List (ℕ × ℕ)) (i p a index offset before : ℕ) → slice_get xs i ≡ Some (p, a + 1) → slice_get xs index ≡ Some (offset, before)
+    → (after : ℕ) × (slice_get (set xs i (p, a)) index ≡ Some (offset, after)) × (after ≤ before)
+used_at [] i p a index offset before is was = absurd (nothing_there _ is)
+used_at (x ∷ xs) zero p a zero offset before is was =
     let one = pair_is x (p, a + 1) is in
-    let two = pair_is x (place, before) was in
-    let here : p ≡ place = ap (λ q. q.0) (sym one ∙ two) in
+    let two = pair_is x (offset, before) was in
+    let here : p ≡ offset = ap (λ q. q.0) (sym one ∙ two) in
     let less : a + 1 ≡ before = ap (λ q. q.1) (sym one ∙ two) in
     (a, ap (λ r. Some (r, a)) here, omega (arith, less))
-used_at (x ∷ xs) zero p a (suc j) place before is was = (before, was, omega arith)
-used_at (x ∷ xs) (suc i) p a zero place before is was = (before, was, omega arith)
-used_at (x ∷ xs) (suc i) p a (suc j) place before is was = used_at xs i p a j place before is was
+used_at (x ∷ xs) zero p a (suc j) offset before is was = (before, was, omega arith)
+used_at (x ∷ xs) (suc i) p a zero offset before is was = (before, was, omega arith)
+used_at (x ∷ xs) (suc i) p a (suc j) offset before is was = used_at xs i p a j offset before is was
 
-used_stems : (xs : List (ℕ × ℕ)) (i p a index place after : ℕ) → slice_get xs i ≡ Some (p, a + 1) → slice_get (set xs i (p, a)) index ≡ Some (place, after)
-    → (before : ℕ) × (slice_get xs index ≡ Some (place, before)) × (after ≤ before)
-used_stems [] i p a index place after is has = absurd (nothing_there _ is)
-used_stems (x ∷ xs) zero p a zero place after is has =
-    let two = pair_is (p, a) (place, after) has in
-    let here : p ≡ place = ap (λ q. q.0) two in
+used_stems : (xs : List (ℕ × ℕ)) (i p a index offset after : ℕ) → slice_get xs i ≡ Some (p, a + 1) → slice_get (set xs i (p, a)) index ≡ Some (offset, after)
+    → (before : ℕ) × (slice_get xs index ≡ Some (offset, before)) × (after ≤ before)
+used_stems [] i p a index offset after is has = absurd (nothing_there _ is)
+used_stems (x ∷ xs) zero p a zero offset after is has =
+    let two = pair_is (p, a) (offset, after) has in
+    let here : p ≡ offset = ap (λ q. q.0) two in
     let less : a ≡ after = ap (λ q. q.1) two in
     (a + 1, is ∙ ap (λ r. Some (r, a + 1)) here, omega (arith, less))
-used_stems (x ∷ xs) zero p a (suc j) place after is has = (after, has, omega arith)
-used_stems (x ∷ xs) (suc i) p a zero place after is has = (after, has, omega arith)
-used_stems (x ∷ xs) (suc i) p a (suc j) place after is has = used_stems xs i p a j place after is has
+used_stems (x ∷ xs) zero p a (suc j) offset after is has = (after, has, omega arith)
+used_stems (x ∷ xs) (suc i) p a zero offset after is has = (after, has, omega arith)
+used_stems (x ∷ xs) (suc i) p a (suc j) offset after is has = used_stems xs i p a j offset after is has
 
 stems_used : (xs ys : List (ℕ × ℕ)) (i p a : ℕ) → Stems xs ys → slice_get ys i ≡ Some (p, a + 1) → Stems xs (set ys i (p, a))
-stems_used xs ys i p a stems is = λ index place after has.
-    let second = used_stems ys i p a index place after is has in
-    let first = stems index place second.0 second.1 in
+stems_used xs ys i p a stems is = λ index offset after has.
+    let second = used_stems ys i p a index offset after is has in
+    let first = stems index offset second.0 second.1 in
     (first.0, first.1, omega (arith, first.2, second.2))
 
 used_from : (xs : List (ℕ × ℕ)) (i p a k : ℕ) (q : ℕ × ℕ) → slice_get xs i ≡ Some (p, a + 1) → k < length (set xs i (p, a)) → get_or (set xs i (p, a)) k q ≡ q
@@ -152,9 +152,9 @@ used_from (x ∷ xs) zero p a zero q is inside there =
     let one = pair_is x (p, a + 1) is in
     let here : x.0 ≡ p = ap (λ r. r.0) one in
     let more : x.1 ≡ a + 1 = ap (λ r. r.1) one in
-    let place : p ≡ q.0 = ap (λ r. r.0) there in
+    let offset : p ≡ q.0 = ap (λ r. r.0) there in
     let polls : a ≡ q.1 = ap (λ r. r.1) there in
-    (x, (0, omega arith, refl), here ∙ place, omega (arith, more, polls))
+    (x, (0, omega arith, refl), here ∙ offset, omega (arith, more, polls))
 used_from (x ∷ xs) zero p a (suc k) q is inside there = (q, (suc k, inside, there), refl, omega arith)
 used_from (x ∷ xs) (suc i) p a zero q is inside there = (q, (0, omega arith, there), refl, omega arith)
 used_from (x ∷ xs) (suc i) p a (suc k) q is inside there =
@@ -169,7 +169,7 @@ begins start collected =
       at = omega arith;
       idle = λ quiet there polls from before. absurd (omega (arith, from, before));
       counted = refl;
-      stems = λ index place after has. (after, has, omega arith);
+      stems = λ index offset after has. (after, has, omega arith);
       verdicts = λ bodies has. absurd has;
       prompt = record { owed = λ some. absurd (omega (arith, some)) };
     }
@@ -203,10 +203,10 @@ used now i a = record { offset = now.offset; began = now.began; polls = set now.
 
 fell_on : (start now : Course) (read : List ℕ) (i a : ℕ) (bodies : List (List ℕ)) → slice_get now.polls i ≡ Some (now.offset, a + 1) → FellAt start now read bodies → FellAt start (used now i a) read bodies
 fell_on start now read i a bodies had fell =
-    let less = used_at now.polls i now.offset a fell.index fell.place fell.after had fell.is_now in
+    let less = used_at now.polls i now.offset a fell.index fell.offset fell.after had fell.is_now in
     record {
       index = fell.index;
-      place = fell.place;
+      offset = fell.offset;
       before = fell.before;
       after = less.0;
       was = fell.was;
@@ -227,7 +227,7 @@ module _ (events order : List Event) (read rest : List ℕ) (m n i a : ℕ) (sta
       let all : now.offset - start.offset ≡ length read = omega (arith, so.at) in
       record {
         index = i;
-        place = now.offset;
+        offset = now.offset;
         before = stem.0;
         after = a;
         was = stem.1;
@@ -242,9 +242,9 @@ module _ (events order : List Event) (read rest : List ℕ) (m n i a : ℕ) (sta
   used_idle : WaitsIdle (events ++ order) read start (used now i a) now.offset
   used_idle = λ quiet there polls from before.
       let r = used_from now.polls i now.offset a there.0 quiet had there.1 there.2 in
-      let at_place : r.0.0 ≡ quiet.0 = r.2 in
-      let stood = so.idle r.0 r.1 (omega (arith, polls, r.3)) (omega (arith, from, at_place)) (omega (arith, before, at_place)) in
-      stood_on NoneOpen events order read (quiet.0 - start.offset) (subst (λ place. StoodAt NoneOpen order read (place - start.offset)) at_place stood)
+      let at_offset : r.0.0 ≡ quiet.0 = r.2 in
+      let stood = so.idle r.0 r.1 (omega (arith, polls, r.3)) (omega (arith, from, at_offset)) (omega (arith, before, at_offset)) in
+      stood_on NoneOpen events order read (quiet.0 - start.offset) (subst (λ offset. StoodAt NoneOpen order read (offset - start.offset)) at_offset stood)
 
   used_so_far : SoFar (events ++ order) read m (suc n) start (used now i a)
   used_so_far =
@@ -294,7 +294,7 @@ at_quiet order read rest m n start now so frames running (inr spent) quiet there
 below : (a b : ℕ) → a < suc b → (a < b) ⊎ (a ≡ b)
 below a b less = either (cases_lt a b) (λ l. inl l) (λ m. inr (omega (arith, less, m)))
 
--- so far, and at this place too
+-- so far, and at this offset too
 pub idle_here : (order : List Event) (read rest : List ℕ) (m n : ℕ) (start now : Course) → SoFar order read m n start now → Frames read (takes_of order) rest → status_after order ≡ None → NoneOpen order ⊎ HasNoPoll now
     → WaitsIdle order read start now (suc now.offset)
 idle_here order read rest m n start now so frames running may = λ quiet there polls from before.
@@ -303,10 +303,10 @@ idle_here order read rest m n start now so frames running may = λ quiet there p
 
 fell_more : (start now : Course) (read piece : List ℕ) (count : ℕ) (bodies : List (List ℕ)) → now.offset ≡ start.offset + length read → FellAt start now read bodies → FellAt start (moved count now) (read ++ piece) bodies
 fell_more start now read piece count bodies at fell =
-    let short : fell.place - start.offset ≤ length read = omega (arith, at, fell.reached) in
+    let short : fell.offset - start.offset ≤ length read = omega (arith, at, fell.reached) in
     record {
       index = fell.index;
-      place = fell.place;
+      offset = fell.offset;
       before = fell.before;
       after = fell.after;
       was = fell.was;
@@ -315,7 +315,7 @@ fell_more start now read piece count bodies at fell =
       behind = fell.behind;
       reached = omega (arith, fell.reached);
       rest = fell.rest;
-      frames = subst (λ bytes. Frames bytes bodies fell.rest) (sym (take-append-le (fell.place - start.offset) read piece short)) fell.frames;
+      frames = subst (λ bytes. Frames bytes bodies fell.rest) (sym (take-append-le (fell.offset - start.offset) read piece short)) fell.frames;
     }
 
 pub piece_so_far : (order : List Event) (read rest piece : List ℕ) (m n count : ℕ) (start now : Course) → SoFar order read m n start now → Frames read (takes_of order) rest → status_after order ≡ None → OwesNothingAtOnce order

@@ -18,10 +18,10 @@ use Rattle.session_law.specs.Verdicts.{IsBare}
 use Rattle.session_core.specs.Standing.{StandsFor}
 use Rattle.session_core.specs.declared.session.Core.{Core}
 use Rattle.session_core.proofs.AtRest.{ended_settled, status_is, stood_lawful}
-use Rattle.bsp_cli.specs.Progress.{EndsHere, IsMet, Progress, Stopped, StoppedAt, EndsBy, IsOut, Finishes, ended, halted, HasEnded, fed}
+use Rattle.bsp_cli.specs.Progress.{EndsHere, IsMet, Progress, Stopped, StoppedAt, EndsBy, HasRunOut, Finishes, ended, halted, HasEnded, fed}
 use Rattle.bsp_cli.specs.Session.{Change, CrewChange, FailedInLast, FoundNoMore, InputChange, TreeChange, EndsFor, HasNoMore, IsDamage, Session, changed, crew_changed, input_changed, tree_changed}
 use Rattle.bsp_cli.specs.Patience.{PatientAtEnd}
-use Rattle.bsp_cli.specs.Places.{EndsInLast, WhereTold}
+use Rattle.bsp_cli.specs.Offsets.{EndsInLast, WhereTold}
 use Rattle.bsp_cli.specs.Served.{Serves}
 use Rattle.bsp_cli.specs.Outside.{Heard, Told}
 use Rattle.bsp_cli.specs.Writing.{GoesThrough, Stops}
@@ -114,7 +114,7 @@ stopped_sink NoMemory fact four = absurd (omega arith)
 
 -- ---- why the input ended
 
-has_more : (stream : Waiting) (input : InputChange) (read : List ℕ) → length read ≡ fed stream → IsOut stream input.new → HasNoMore input read
+has_more : (stream : Waiting) (input : InputChange) (read : List ℕ) → length read ≡ fed stream → HasRunOut stream input.new → HasNoMore input read
 has_more stream input read count (inl dry) = inl dry
 has_more stream input read count (inr limit) = inr (count ∙ limit)
 

@@ -1,6 +1,6 @@
 -- One turn of the loop: what a piece, an end and a stop lead to.
 use Rattle.std.proofs.Common.{◌≡◌, inl, inr, ℕ, List, Option, Result, Ok, Err, OnErr, OnOk, IfOk, IsErrOf}
-use Rattle.bsp_cli.specs.Places.{IsAt}
+use Rattle.bsp_cli.specs.Offsets.{IsAt}
 use Rattle.bsp_cli.specs.declared.stop.Stop.TheVariants.{Sink}
 use Rattle.bsp_edge.specs.Course.{Course}
 use Rattle.rpc_frame.specs.Frames.{IsSound, Waiting}
@@ -9,7 +9,7 @@ use Rattle.bsp_cli.specs.Outside.{Heard, Told, heard}
 use Rattle.bsp_cli.specs.Patience.{WaitedLast}
 use Rattle.bsp_cli.specs.Session.{FailedInLast}
 use Rattle.bsp_cli.proofs.HeardLaws.{where_then}
-use Rattle.bsp_cli.specs.Places.{EndsInLast, WhereTold}
+use Rattle.bsp_cli.specs.Offsets.{EndsInLast, WhereTold}
 use Rattle.bsp_cli.specs.Progress.{EndsHere, Progress, Stopped, StoppedAt, StoppedWaiting, fed, with_piece}
 use Rattle.bsp_cli.specs.declared.outcome.Ending.{Ending}
 use Rattle.bsp_cli.specs.declared.serve.Turn.{Turn}

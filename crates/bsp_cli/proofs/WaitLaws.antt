@@ -21,7 +21,7 @@ use Rattle.bsp_cli.specs.Outside.{Heard, Told, heard}
 use Rattle.bsp_cli.specs.Patience.{NoneOpen, OwesNothingAtOnce, PatientAtEnd}
 use Rattle.bsp_cli.specs.declared.outcome.Ending.{Ending}
 use Rattle.bsp_cli.specs.declared.outcome.Ending.TheVariants.{Border}
-use Rattle.bsp_cli.specs.Places.{WhereTold}
+use Rattle.bsp_cli.specs.Offsets.{WhereTold}
 use Rattle.bsp_cli.specs.Progress.{EndsHere, Finds, IsReady, Progress, SoFar, Stays, Stopped, StoppedWaiting, with_piece}
 use Rattle.bsp_cli.proofs.PatienceLaws.{stood_here, stood_on}
 use Rattle.bsp_cli.specs.Writing.{GoesThrough, IsAny, Stops}
@@ -161,14 +161,14 @@ module _ (core : Core) (stream : Waiting) (from to : Heard) (start now : Told) (
   pub poll_fails : (into : List ℕ) → ReadLeaves to.left left into got.Failed → ReadMoves to.course course got.Failed → Progress core stream from behind start now
   poll_fails into leaves moves = found_same leaves moves
 
--- ---- places
+-- ---- offsets
 
 stays_quiet : (from next : Option Course) → QuietMoves from next → Stays from next
 stays_quiet None next moves None count at = tt
 stays_quiet None next moves (Some start) count at = rw moves tt
 stays_quiet (Some from) None moves start count at = absurd moves
 stays_quiet (Some from) (Some next) moves None count at = tt
-stays_quiet (Some from) (Some next) moves (Some start) count at = let place : next.offset ≡ from.offset = ap (λ (c : Course). c.offset) moves.has in omega (arith, at, place)
+stays_quiet (Some from) (Some next) moves (Some start) count at = let same : next.offset ≡ from.offset = ap (λ (c : Course). c.offset) moves.has in omega (arith, at, same)
 
 pub stays_more : (course from next : Option Course) → Stays course from → QuietMoves from next → Stays course next
 stays_more course from next stays moves = λ start count at. stays_quiet from next moves start count (stays start count at)

@@ -16,15 +16,21 @@ use Rattle.session_core.specs.Standing.{StandsFor, IsQuiet}
 use Rattle.session_core.specs.State.{said_out}
 use Rattle.session_core.specs.declared.session.Core.{Core}
 use Rattle.session_core.proofs.AtRest.{stood_lawful}
-use Rattle.session_build.specs.Outgoing.{outgoing_said}
+use Rattle.build_messages.specs.Outgoing.{outgoing_said}
 use Rattle.session_law.specs.declared.InputEnd.{InputEnd}
 use Rattle.bsp_cli.proofs.OntoLaws.{onto-append, onto-push, takes_of-onto, end_of-onto, writes_of-onto}
 use Rattle.bsp_cli.specs.declared.stop.Stop.{Stop}
 use Rattle.bsp_cli.specs.declared.stop.Stop.TheVariants.{Sink, NoMemory}
 use Rattle.bsp_cli.specs.Outside.{Told, told}
 use Rattle.bsp_cli.specs.Session.{RoseBy}
-use Rattle.bsp_cli.specs.Writing.{ActsThrough, Flushes, GivesFront, GivesSoFar, Halts, HaltsAt, IsAny, Sends, GoesThrough, Stops}
+use Rattle.bsp_cli.specs.Writing.{ActsThrough, Flushes, GivesFront, Halts, HaltsAt, IsAny, Sends, GoesThrough, Stops}
 use Rattle.bsp_cli.proofs.EventLaws.{takes_of-append, writes_of-append, end_of-append, tells_append, tells_messages, tells_nothing, tells_onto, unasked}
+
+-- the bytes before this rest were given
+pub record GivesSoFar (old new : Option (List ℕ)) (bytes rest : List ℕ) : Type 0 where
+  pub front : List ℕ
+  pub whole : bytes ≡ front ++ rest
+  pub given : Gives old new front
 
 pub starts : (given : Option (List ℕ)) (bytes : List ℕ) → GivesSoFar given given bytes bytes
 starts given bytes = record { front = []; whole = refl; given = gives_nothing given }

@@ -1,6 +1,6 @@
 pub mod Outcomes
 pub mod Patience
-pub mod Places
+pub mod Offsets
 pub mod Words
 pub mod Session
 pub mod Shares

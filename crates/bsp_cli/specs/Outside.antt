@@ -26,8 +26,8 @@ pub record Heard : Type 0 where
 abbrev pub heard : Option (List ℕ) → Option Course → ℕ → Heard
 heard left course collected = record { left = left; course = course; collected = collected }
 
--- between two moments lie the hands and the writes of these events, and these bytes more
-pub record Tells (events : List Event) (tail : List ℕ) (old new : Told) : Type 0 where
+-- what is told between two moments is the hands and the writes of these events, and these bytes more
+pub record ToldBy (events : List Event) (tail : List ℕ) (old new : Told) : Type 0 where
   pub hands : Hands old.handed new.handed (hands_of events)
   pub failures : RoseBy (failures_of events) old.faults new.faults
   pub put : Gives old.given new.given (flat_map text_of (writes_of events) ++ tail)

@@ -1,5 +1,5 @@
--- When a session waits for more input, when a check may have finished, and what is answered by then: by the places where the
--- input was quiet and where its pieces began, where the source tells them.
+-- When a session waits for more input, when a check may have finished, and what is answered by then: by the offsets at which the
+-- input was quiet and at which its pieces began, where the source tells them.
 use Rattle.std.specs.Prelude.{◌≡◌, ◌+◌, ◌-◌, ◌++◌, ◌<◌, ◌≤◌, ℕ, suc, List, [], ◌∷◌, length, take, Contains, Some, None, slice_get}
 use Rattle.bsp_edge.specs.Course.{Course}
 use Rattle.rpc_frame.specs.Frames.{Frames}
@@ -28,9 +28,9 @@ NoneOpen past = (after past).requests ≡ []
 abbrev pub OwesNothingAtOnce : List Event → Type 0
 OwesNothingAtOnce past = IsCaughtUp (after past)
 
--- ---- quiet places
+-- ---- quiet offsets
 
--- the polls that are left at all quiet places
+-- the polls that are left at all quiet offsets
 abbrev pub polls_left : List (ℕ × ℕ) → ℕ
 polls_left [] = 0
 polls_left (quiet ∷ others) = quiet.1 + polls_left others
@@ -40,21 +40,21 @@ abbrev pub WaitsIdle : List Event → List ℕ → Course → Course → ℕ →
 WaitsIdle order read start now upto =
     (quiet : ℕ × ℕ) → Contains now.polls quiet → 0 < quiet.1 → start.offset ≤ quiet.0 → quiet.0 < upto → StoodAt NoneOpen order read (quiet.0 - start.offset)
 
--- the polls fell at a quiet place before which just these frames are whole
+-- the polls fell at a quiet offset before which just these frames are whole
 pub record FellAt (start now : Course) (read : List ℕ) (bodies : List (List ℕ)) : Type 0 where
   pub index : ℕ
-  pub place : ℕ
+  pub offset : ℕ
   pub before : ℕ
   pub after : ℕ
-  pub was : slice_get start.polls index ≡ Some (place, before)
-  pub is_now : slice_get now.polls index ≡ Some (place, after)
+  pub was : slice_get start.polls index ≡ Some (offset, before)
+  pub is_now : slice_get now.polls index ≡ Some (offset, after)
   pub fell : after < before
-  pub behind : start.offset ≤ place
-  pub reached : place ≤ now.offset
+  pub behind : start.offset ≤ offset
+  pub reached : offset ≤ now.offset
   pub rest : List ℕ
-  pub frames : Frames (take (place - start.offset) read) bodies rest
+  pub frames : Frames (take (offset - start.offset) read) bodies rest
 
--- the polls fell at the quiet place where the source stands now
+-- the polls fell at the quiet offset where the source stands now
 pub record FoundQuiet (start now : Course) : Type 0 where
   pub index : ℕ
   pub before : ℕ
@@ -66,7 +66,7 @@ pub record FoundQuiet (start now : Course) : Type 0 where
 -- ---- what is promised
 
 -- More input is waited for only where no request is open. As many outcomes are collected as polls found the input quiet. A check
--- finishes only where just those frames were taken that are whole before a place at which the input was found quiet.
+-- finishes only where just those frames were taken that are whole before an offset at which the input was found quiet.
 pub record Patient (order : List Event) (read : List ℕ) (collected_old collected_new : ℕ) (start now : Course) : Type 0 where
   pub idle : WaitsIdle order read start now now.offset
   pub counted : polls_left start.polls + collected_old ≡ polls_left now.polls + collected_new
@@ -81,6 +81,7 @@ pub record WaitedLast (order : List Event) (read : List ℕ) (start now : Course
   pub all : StoodAt OwesNothingAtOnce order read (length read)
   pub quiet : FoundQuiet start now
 
--- Each frame was taken that is whole before the last piece began, and what it owed at once was written before that was read.
+-- The order has a moment at which just those frames were taken that are whole before the last piece began, and nothing was owed
+-- at once.
 pub record Prompt (order : List Event) (read : List ℕ) (start now : Course) : Type 0 where
   pub owed : start.offset < now.offset → StoodAt OwesNothingAtOnce order read (now.began - start.offset)

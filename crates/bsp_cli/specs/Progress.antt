@@ -21,9 +21,9 @@ use Rattle.session_core.specs.State.{Rest, rest_of}
 use Rattle.session_core.specs.declared.session.Core.{Core}
 use Rattle.bsp_cli.specs.Outcomes.{how_of}
 use Rattle.bsp_cli.specs.Session.{FailedInLast, IsCut}
-use Rattle.bsp_cli.specs.Outside.{Heard, Told, Tells}
+use Rattle.bsp_cli.specs.Outside.{Heard, Told, ToldBy}
 use Rattle.bsp_cli.specs.Patience.{FellAt, Patient, PatientAtEnd, Prompt, WaitedLast, WaitsIdle, polls_left}
-use Rattle.bsp_cli.specs.Places.{IsAt, WhereTold}
+use Rattle.bsp_cli.specs.Offsets.{IsAt, WhereTold}
 use Rattle.bsp_cli.specs.Writing.{GoesThrough, Stops}
 use Rattle.worker_pool.specs.Jobs.{JobTree}
 use Rattle.bsp_cli.specs.declared.outcome.Ending.{Ending}
@@ -96,9 +96,9 @@ pub record TookOutcome (old new : Rest) (number : ℕ) : Type 0 where
 abbrev pub fed : Waiting → ℕ
 fed stream = stream.given_end + length stream.bytes
 
--- each quiet place is one of before, with no more polls left
+-- each quiet offset is one of before, with no more polls left
 abbrev pub Stems : List (ℕ × ℕ) → List (ℕ × ℕ) → Type 0
-Stems old new = (index place after : ℕ) → slice_get new index ≡ Some (place, after) → (before : ℕ) × (slice_get old index ≡ Some (place, before)) × (after ≤ before)
+Stems old new = (index offset after : ℕ) → slice_get new index ≡ Some (offset, after) → (before : ℕ) × (slice_get old index ≡ Some (offset, before)) × (after ≤ before)
 
 -- what a source told of its course fits the order so far
 pub record SoFar (order : List Event) (read : List ℕ) (collected_old collected_new : ℕ) (start now : Course) : Type 0 where
@@ -119,7 +119,7 @@ pub record Progress (core : Core) (stream : Waiting) (from to : Heard) (start no
   pub consumed : Takes from.left to.left read
   pub frames : FramesTo read (takes_of order) stream.bytes
   pub count : length read ≡ fed stream
-  pub tells : Tells order [] start now
+  pub tells : ToldBy order [] start now
   pub course : WhereTold (SoFar order read from.collected to.collected) from.course to.course
 
 -- the same, once the session had to stop before an end of its input
@@ -133,7 +133,7 @@ pub record Stopped (given_end : ℕ) (from to : Heard) (start now : Told) : Type
   pub frames : FramesTo read (takes_of order) waiting
   pub count : length read ≡ given_end + length waiting
   pub tail : List ℕ
-  pub tells : Tells order tail start now
+  pub tells : ToldBy order tail start now
   pub cut : tail ≢ [] → IsCut tail
   pub patient : WhereTold (Patient order read from.collected to.collected) from.course to.course
   pub prompt : WhereTold (Prompt order read) from.course to.course
@@ -186,8 +186,8 @@ Finds core stream from to start now into Quiet = ⊥
 Finds core stream from to start now into got.Failed = Progress core stream from to start now
 
 -- nothing more is left of the input, or its limit is reached
-abbrev pub IsOut : Waiting → Option (List ℕ) → Type 0
-IsOut stream left = IsDry left ⊎ (fed stream ≡ stream_limit)
+abbrev pub HasRunOut : Waiting → Option (List ℕ) → Type 0
+HasRunOut stream left = IsDry left ⊎ (fed stream ≡ stream_limit)
 
 -- the bytes that wait have no more, and end inside a frame
 pub record EndsInside (stream : Waiting) (left : Option (List ℕ)) (damage : Damage) : Type 0 where
@@ -195,11 +195,11 @@ pub record EndsInside (stream : Waiting) (left : Option (List ℕ)) (damage : Da
   pub kind : damage.kind ≡ Truncated
   pub place : damage.place ≡ fed stream
   pub inside : stream.bytes ≢ []
-  pub out : IsOut stream left
+  pub out : HasRunOut stream left
 
 -- why the input is found to have ended, by the bytes that wait
 abbrev pub EndsBy : Ending → Waiting → Option (List ℕ) → ℕ → ℕ → Type 0
-EndsBy Border stream left faults_old faults_new = (stream.bytes ≡ []) × IsOut stream left
+EndsBy Border stream left faults_old faults_new = (stream.bytes ≡ []) × HasRunOut stream left
 EndsBy (Damaged damage) stream left faults_old faults_new = HasDamage stream damage ⊎ EndsInside stream left damage
 EndsBy Failed stream left faults_old faults_new = IsSound stream.bytes × Rose faults_old faults_new
 

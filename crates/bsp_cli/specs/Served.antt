@@ -5,7 +5,7 @@ use Rattle.rpc_frame.specs.declared.damage.Damage.{Damage}
 use Rattle.bsp_cli.specs.Notes.{Noted, note_for}
 use Rattle.bsp_cli.specs.Outcomes.{status_by}
 use Rattle.bsp_cli.specs.Patience.{Patient, PatientAtEnd, Prompt}
-use Rattle.bsp_cli.specs.Places.{WhereTold}
+use Rattle.bsp_cli.specs.Offsets.{WhereTold}
 use Rattle.bsp_cli.specs.Session.{Change, CrewChange, FoundNoMore, InputChange, TreeChange, Session}
 use Rattle.session_law.specs.Order.{Event}
 use Rattle.bsp_cli.specs.declared.outcome.Ending.TheVariants.{Damaged}

@@ -21,7 +21,7 @@ use Rattle.session_law.specs.Lawful.{Lawful}
 use Rattle.session_law.specs.Order.{Event, takes_of, writes_of, hands_of, failures_of, end_of}
 use Rattle.session_law.specs.Past.{status_after}
 use Rattle.bsp_cli.specs.Patience.{WaitedLast}
-use Rattle.bsp_cli.specs.Places.{EndsInLast, WhereTold}
+use Rattle.bsp_cli.specs.Offsets.{EndsInLast, WhereTold}
 
 -- what a source told before a call and behind it: what is left, its course, and the faults
 pub record InputChange : Type 0 where

@@ -10,7 +10,7 @@ use Rattle.session_law.specs.declared.InputEnd.{InputEnd}
 use Rattle.session_core.specs.Standing.{StandsFor}
 use Rattle.session_core.specs.State.{said_out}
 use Rattle.session_core.specs.declared.session.Core.{Core}
-use Rattle.bsp_cli.specs.Outside.{Told, Tells}
+use Rattle.bsp_cli.specs.Outside.{Told, ToldBy}
 use Rattle.bsp_cli.specs.Session.{IsCut}
 use Rattle.bsp_cli.specs.declared.stop.Stop.{Stop}
 use Rattle.bsp_cli.specs.declared.stop.Stop.TheVariants.{Sink, NoMemory}
@@ -20,12 +20,6 @@ pub record GivesFront (old new : Option (List ℕ)) (bytes : List ℕ) : Type 0 
   pub front : List ℕ
   pub rest : List ℕ
   pub more : 0 < length rest
-  pub whole : bytes ≡ front ++ rest
-  pub given : Gives old new front
-
--- the bytes before this rest were given
-pub record GivesSoFar (old new : Option (List ℕ)) (bytes rest : List ℕ) : Type 0 where
-  pub front : List ℕ
   pub whole : bytes ≡ front ++ rest
   pub given : Gives old new front
 
@@ -74,7 +68,7 @@ pub record GoesThrough (Such : Said → Type 0) (c d : Core) (bodies : List (Lis
   pub takes : takes_of events ≡ bodies
   pub ended : end_of events ≡ end
   pub such : All Such (writes_of events)
-  pub tells : Tells events [] old new
+  pub tells : ToldBy events [] old new
 
 -- the core went on by these events, and wrote at most a proper front of the next message, when it had to stop
 pub record Stops (Such : Said → Type 0) (c : Core) (bodies : List (List ℕ)) (end : Option InputEnd) (old new : Told) : Type 0 where
@@ -84,7 +78,7 @@ pub record Stops (Such : Said → Type 0) (c : Core) (bodies : List (List ℕ)) 
   pub ended : end_of events ≡ end
   pub such : All Such (writes_of events)
   pub tail : List ℕ
-  pub tells : Tells events tail old new
+  pub tells : ToldBy events tail old new
   pub cut : tail ≢ [] → IsCut tail
 
 -- what a message became that was sent: given whole, or in part where the sink failed, or not at all

@@ -1,9 +1,9 @@
 //! The program as a library: the words of its command line, its loop over an input, a tree of files, a crew
 //! that does jobs and an output, its notes and its exit status, over any input and output and over the real ones.
 //!
-//! The loop acts on all frames that were read, and then waits: for more input alone where the session is idle, and
-//! else for more input or for an outcome of the crew, whichever comes first. After each step it meets what the session
-//! needs: it asks the tree, gives the crew a job, or drains it.
+//! The loop acts on all frames that were read. Where the session is idle then, it waits for more input. Else it looks
+//! whether more input is there, and where there is none it waits for an outcome of the crew. After each step it meets
+//! what the session needs: it asks the tree, gives the crew a job, or drains it.
 //!
 //! It stands on the session (`session_core`, by the law of `session_law`), on frames and messages, on the crews of
 //! `worker_pool`, and on `bsp_edge` for what is outside. It knows all of these and nothing of the language. Begin with

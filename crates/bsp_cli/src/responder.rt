@@ -2,7 +2,7 @@ ghost use Rattle.std.specs.Prelude.{◌≡◌, ◌∷◌, ◌≤◌, ℕ, List, 
 ghost use Rattle.bsp_edge.specs.Faults.{Rose};
 ghost use Rattle.rpc_frame.specs.Limits.{content_limit};
 ghost use Rattle.rpc_peer.specs.Said.{body_of};
-ghost use Rattle.session_build.specs.Outgoing.{outgoing_said};
+ghost use Rattle.build_messages.specs.Outgoing.{outgoing_said};
 ghost use Rattle.session_law.specs.IsFramed.{IsFramed, text_of};
 ghost use Rattle.session_law.specs.Order.{Event, take, ends};
 ghost use Rattle.session_law.specs.Verdicts.{IsBare};
@@ -16,9 +16,9 @@ ghost use Rattle.bsp_cli.specs.Writing.{ActsThrough, Flushes, Halts, HaltsAt, Se
 use crate::stop::Stop;
 use crate::writing::{SinkFailed, write_all};
 use bsp_edge::{Sink, Tree};
+use build_messages::Outgoing;
 use ob_text::NoMemory;
 use rpc_frame::frame_into;
-use session_build::Outgoing;
 use session_core::Core;
 use session_law::InputEnd;
 use std::alloc::Global;

@@ -40,7 +40,8 @@ pub fn run_words<S: Source, T: Tree, K: Sink, C: Crew>(
 
     // The bytes taken, what the tree handed out and the bytes written are the takes, the hands and
     // the writes of one lawful order, and the notes tell the damage that ended it. Where the source tells its
-    // quiet places, the same order says that more input was waited for only where no request was open.
+    // quiet offsets and where its pieces began, the same order says that more input was waited for only where no
+    // request was open, and that what the frames before the last piece owed at once was written.
     ensures session { OnOk asked.entry (Served
         (input_changed (S.left input.old) (S.left input.new) (S.course input.old) (S.course input.new)
         (S.faults input.old) (S.faults input.new))

@@ -9,8 +9,8 @@ ghost use Rattle.session_law.specs.Order.{Event};
 ghost use Rattle.session_core.specs.Standing.{StandsFor, status_of};
 ghost use Rattle.session_core.specs.State.{rest_of};
 ghost use Rattle.worker_pool.specs.Crews.{IsFresh};
-ghost use Rattle.bsp_cli.specs.Places.{EndsInLast, IsAt, WhereTold};
-ghost use Rattle.bsp_cli.specs.Progress.{EndsBy, EndsHere, Fetches, Finishes, HasEnded, IsMet, IsOut, IsReady, IsWithin, MayEnd, MayGoOn, Passes, Progress, Stopped, StoppedAt, StoppedWaiting, fed, with_piece};
+ghost use Rattle.bsp_cli.specs.Offsets.{EndsInLast, IsAt, WhereTold};
+ghost use Rattle.bsp_cli.specs.Progress.{EndsBy, EndsHere, Fetches, Finishes, HasEnded, IsMet, HasRunOut, IsReady, IsWithin, MayEnd, MayGoOn, Passes, Progress, Stopped, StoppedAt, StoppedWaiting, fed, with_piece};
 ghost use Rattle.bsp_cli.specs.Served.{Serves};
 ghost use Rattle.bsp_cli.specs.Session.{changed, crew_changed, input_changed, tree_changed};
 ghost use Rattle.bsp_cli.specs.Shares.{KeepsCrew, Shares};
@@ -278,7 +278,7 @@ impl Server {
     fn end(&self) -> Ending
         requires drained { HasNoFrame self.now.decoder.bytes }
         requires sound { IsSound self.now.decoder.bytes }
-        ensures { (left : Option (List ℕ)) (faults_old faults_new : ℕ) → IsOut self.now.decoder left
+        ensures { (left : Option (List ℕ)) (faults_old faults_new : ℕ) → HasRunOut self.now.decoder left
             → EndsBy result self.now.decoder left faults_old faults_new }
     {
         if self.decoder.at_border() {

@@ -1,4 +1,4 @@
-ghost use Rattle.std.specs.Prelude.{◌≡◌, ◌≢◌, ◌<◌, None, Some, Ok, Err, length, vec_len, IfErr, IfOk, IsErrOf};
+ghost use Rattle.std.specs.Prelude.{◌≡◌, ◌≢◌, ◌<◌, None, Some, Ok, Err, length, vec_len, IfErr, IfOk, OnOk, IsErrOf};
 ghost use Rattle.std.specs.Fs.{file_type, IsFile};
 ghost use Rattle.std.specs.IoError.{error_kind};
 ghost use Rattle.std.specs.List.{All};
@@ -69,14 +69,21 @@ impl<R: Files> FolderTree<R> {
         match found(fs::metadata(&self.runtime, name.as_path()))? {
             Some(metadata) => {
                 regular(&metadata)?;
-                self.read_regular(name, buffer)
+                self.read_regular(&metadata, name, buffer)
             }
             None => Ok(Held::Absent),
         }
     }
 
-    fn read_regular(&self, name: PathBuf, buffer: &mut [u8]) -> Result<Held, TreeFault>
-        requires { 0 < length buffer.old }
+    /// Opens a file where the look at its path found a regular one.
+    fn read_regular(
+        &self,
+        _looked: &Metadata,
+        name: PathBuf,
+        buffer: &mut [u8],
+    ) -> Result<Held, TreeFault>
+        requires regular { IsFile (file_type _looked.now) }
+        requires room { 0 < length buffer.old }
         ensures { IfOk result IsReadable }
     {
         match found(File::open(&self.runtime, name))? {
@@ -127,6 +134,7 @@ fn found<T>(answer: io::Result<T>) -> Result<Option<T>, TreeFault>
 fn regular(metadata: &Metadata) -> Result<(), TreeFault>
     ensures file { IsFile (file_type metadata.now) → result ≡ Ok tt }
     ensures other { ¬ (IsFile (file_type metadata.now)) → result ≡ Err TreeFault.Failed }
+    ensures found { OnOk result (IsFile (file_type metadata.now)) }
 {
     if metadata.is_file() {
         Ok(())

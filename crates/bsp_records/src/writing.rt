@@ -85,8 +85,7 @@ impl Write for Text {
     ghost HasTexts = { IsUtf8 };
 
     fn write(&self, alloc: Global) -> Result<Value, NoMemory> {
-        let text = std::str::from_utf8(self.as_slice()).unwrap();
-        Ok(Value::try_from_str(alloc, text)?)
+        Ok(Value::try_from_str(alloc, self.as_str())?)
     }
 }
 

@@ -25,13 +25,23 @@ use Rattle.build_rules.specs.World.{World, held_in, IsCyclic}
 use Rattle.build_sources.proofs.CheckLaws.{checked_list, checked_view}
 use Rattle.build_sources.proofs.DocumentLaws.{same_names}
 use Rattle.build_sources.specs.Documents.{AreImportsOf}
-use Rattle.build_checks.specs.Kept.{AreApart, AreNumbered, Extends, IsKept, IsNumbered, ShowAlike}
+use Rattle.build_checks.specs.Kept.{AreNumbered, AreShown, Extends, IsKept, IsNumbered}
 
 abbrev pub Import : Type 0
 Import = List ℕ × ℕ
 
 abbrev Keys : Type 0
 Keys = List (List ℕ)
+
+-- no two numbers stand for one key
+abbrev pub AreApart : List (List ℕ) → Type 0
+AreApart keys = (m n : ℕ) (k : List ℕ) → slice_get keys m ≡ Some k → slice_get keys n ≡ Some k → m ≡ n
+
+-- what the names that a module imports show is the same to two modules, each in its world
+pub record ShowAlike (w0 : World) (p0 : ℕ) (w : World) (p : ℕ) : Type 0 where
+  pub shown : List ℕ → ViewTree
+  pub first : AreShown w0 p0 shown
+  pub other : AreShown w p shown
 
 -- ---- views are ones
 

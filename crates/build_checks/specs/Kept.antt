@@ -34,18 +34,8 @@ pub record IsKept (keys : List (List ℕ)) (w : World) (p : ℕ) (fact : FactTre
 abbrev pub Extends : List (List ℕ) → List (List ℕ) → Type 0
 Extends old new = (m : ℕ) (k : List ℕ) → slice_get old m ≡ Some k → slice_get new m ≡ Some k
 
--- no two numbers stand for one key
-abbrev pub AreApart : List (List ℕ) → Type 0
-AreApart keys = (m n : ℕ) (k : List ℕ) → slice_get keys m ≡ Some k → slice_get keys n ≡ Some k → m ≡ n
-
 -- ---- views
 
 -- what the names that a module imports show to it
 abbrev pub AreShown : World → ℕ → (List ℕ → ViewTree) → Type 0
 AreShown w p shown = (names : List (List ℕ)) → HasImports (held_in w p) names → (name : List ℕ) → Contains names name → IsShown w as_view p name (shown name)
-
--- what the names show is the same to two modules, each in its world
-pub record ShowAlike (w0 : World) (p0 : ℕ) (w : World) (p : ℕ) : Type 0 where
-  pub shown : List ℕ → ViewTree
-  pub first : AreShown w0 p0 shown
-  pub other : AreShown w p shown

@@ -17,12 +17,12 @@ pub(crate) fn known_imports<'a>(
 ) -> Result<Vec<Option<&'a [Name]>>, NoMemory>
     ensures { IfOk result (λ known. AreKnown entries.now known.items) }
 {
-    let places = places_of(alloc, entries)?;
+    let indices = indices_of(alloc, entries)?;
     let mut known = nothing(alloc, entries.len())?;
     let targets = workspace.targets();
     for pair in workspace.pairs() {
-        match places.get(&pair.path) {
-            Some(place) => learn(alloc, cache, targets, pair, entries, *place, &mut known)?,
+        match indices.get(&pair.path) {
+            Some(index) => learn(alloc, cache, targets, pair, entries, *index, &mut known)?,
             None => {}
         }
     }
@@ -41,12 +41,12 @@ fn nothing<'a>(alloc: Global, count: usize) -> Result<Vec<Option<&'a [Name]>>, N
 }
 
 /// The index of each path's entry, of the last one where it stands twice. It only decides where a kept check is looked for.
-fn places_of(alloc: Global, entries: &[(Path, Held)]) -> Result<IndexMap<Path, usize>, NoMemory> {
-    let mut places = IndexMap::new(alloc);
-    for place in 0..entries.len() {
-        places.insert(entries[place].0.copy(alloc)?, place)?;
+fn indices_of(alloc: Global, entries: &[(Path, Held)]) -> Result<IndexMap<Path, usize>, NoMemory> {
+    let mut indices = IndexMap::new(alloc);
+    for index in 0..entries.len() {
+        indices.insert(entries[index].0.copy(alloc)?, index)?;
     }
-    Ok(places)
+    Ok(indices)
 }
 
 /// Learns what a pair's kept checks say of the document at an index.
@@ -56,7 +56,7 @@ fn learn<'a>(
     targets: &[Target],
     pair: &Pair,
     entries: &[(Path, Held)],
-    place: usize,
+    index: usize,
     known: &mut Vec<Option<&'a [Name]>>,
 ) -> Result<(), NoMemory>
     requires target { pair.now.target < length targets.now }
@@ -65,10 +65,10 @@ fn learn<'a>(
     ensures sized { length known.new.items ≡ length entries.now }
     ensures known { AreKnown entries.now known.new.items }
 {
-    if place < entries.len() {
+    if index < entries.len() {
         let key = PairKey::of(alloc, targets, pair)?;
-        let names = learned(cache, &key, &entries[place].1, known[place]);
-        put(place, names, known);
+        let names = learned(cache, &key, &entries[index].1, known[index]);
+        put(index, names, known);
     }
     Ok(())
 }
@@ -90,9 +90,9 @@ fn learned<'a>(
 }
 
 /// Puts what is known of the document at an index.
-fn put<'a>(place: usize, names: Option<&'a [Name]>, known: &mut Vec<Option<&'a [Name]>>)
-    requires { place < length known.old.items }
-    ensures { known.new.items ≡ slice_set known.old.items place names.entry }
+fn put<'a>(index: usize, names: Option<&'a [Name]>, known: &mut Vec<Option<&'a [Name]>>)
+    requires { index < length known.old.items }
+    ensures { known.new.items ≡ slice_set known.old.items index names.entry }
 {
-    known[place] = names;
+    known[index] = names;
 }

@@ -5,9 +5,14 @@ use Rattle.std.proofs.lemmas.List.{length-set, get_or-set_same, get_or-set_other
 use Rattle.std.proofs.lemmas.List.Elements.{Contains-get_or}
 use Rattle.build_plan.specs.Rows.{row_at, Imports, AreWithin}
 use Rattle.build_plan.specs.Lists.{count_of}
-use Rattle.build_plan.specs.Links.{AreTurned, IsAdded, AreTurnedTo}
+use Rattle.build_plan.specs.Links.{AreTurned, IsAdded}
 use Rattle.build_plan.proofs.Counting.{same_count, same_one, same_none, count_push, counted, found}
 use Rattle.build_plan.proofs.GetsThrough.{importer_within}
+
+-- so many places were put to the rows of all that they import
+pub record AreTurnedTo (rows : List (List ℕ)) (n : ℕ) (turned : List (List ℕ)) : Type 0 where
+  pub size : length turned ≡ length rows
+  pub count : (a b : ℕ) → count_of a (row_at turned b) ≡ count_of b (row_at (take n rows) a)
 
 -- a number of an `if` on equal places, and on others
 pub at_equal : (a b n : ℕ) → a ≡ b → cond (eqb a b) n 0 ≡ n

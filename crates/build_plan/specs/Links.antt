@@ -1,5 +1,5 @@
 -- Who imports whom, both ways.
-use Rattle.std.specs.Prelude.{◌≡◌, ℕ, ◌+◌, ◌<◌, ◌^◌, ◌==◌, List, length, take, if◌then◌else◌}
+use Rattle.std.specs.Prelude.{◌≡◌, ℕ, ◌+◌, ◌<◌, ◌^◌, ◌==◌, List, length, if◌then◌else◌}
 use Rattle.build_plan.specs.Rows.{row_at, AreWithin}
 use Rattle.build_plan.specs.Lists.{count_of}
 
@@ -17,8 +17,3 @@ pub record AreLinks (imports importers : List (List ℕ)) : Type 0 where
 pub record IsAdded (old new : List (List ℕ)) (importer : ℕ) (imports : List ℕ) : Type 0 where
   pub size : length new ≡ length old
   pub count : (a b : ℕ) → count_of a (row_at new b) ≡ count_of a (row_at old b) + (if a == importer then count_of b imports else 0)
-
--- so many places were put to the rows of all that they import
-pub record AreTurnedTo (rows : List (List ℕ)) (n : ℕ) (turned : List (List ℕ)) : Type 0 where
-  pub size : length turned ≡ length rows
-  pub count : (a b : ℕ) → count_of a (row_at turned b) ≡ count_of b (row_at (take n rows) a)

@@ -1,10 +1,12 @@
--- A right row: a compile is at work and another waits behind it. The client cancels the second, then the first. The second is
--- answered alone; then the check of the first that is out finishes, its target and itself, each as cancelled, and it is
--- answered.
-use Rattle.std.proofs.Common.{◌≡◌, ◌≢◌, inr, ◌++◌, ◌&&◌, ℕ, suc, List, [], ◌∷◌, get_or, Bool, true, false, All, AllPairs, arith, Option, Some, None, Ok, refl, sym, ap, subst, ◌∙◌, append-nil}
+-- A right row: a compile is at work and another waits behind it. Of each document of the first a client shows what it showed
+-- before, or the list that the build found, which was published already. The client cancels the second, then the first. The
+-- second is answered alone; then the check of the first that is out finishes, its target and itself, each as cancelled, and it
+-- is answered.
+use Rattle.std.proofs.Common.{◌≡◌, ◌≢◌, ◌⊎◌, inl, inr, ◌++◌, ◌&&◌, ℕ, suc, List, [], ◌∷◌, get_or, Bool, true, false, All, AllPairs, arith, Option, Some, None, Ok, refl, sym, ap, subst, ◌∙◌, append-nil}
 use Rattle.std.specs.Prelude.{codes}
-use Rattle.std.proofs.lemmas.List.Elements.{All-cons, All-nil}
+use Rattle.std.proofs.lemmas.List.Elements.{All-append, All-cons, All-nil}
 use Rattle.std.proofs.lemmas.List.Kept.{AllPairs-cons}
+use Rattle.bsp_records.specs.Table.{Table}
 use Rattle.bsp_records.specs.declared.identifiers.BuildTargetIdentifier.{BuildTargetIdentifier}
 use Rattle.rpc_peer.specs.Meaning.{meaning}
 use Rattle.rpc_peer.specs.OpenIds.{same_id}
@@ -30,9 +32,10 @@ use Rattle.session_law.specs.Open.{IsLater, IsOpen, IsWaiting, Mid, Open, Plain,
 use Rattle.session_law.specs.Order.{Event, onto, take, write}
 use Rattle.session_law.specs.Past.{Now, after, by_event, exit_status}
 use Rattle.session_law.specs.Requests.{Asked, cancelled_id, cancels, has_this_id}
-use Rattle.session_law.specs.ShowsOldOrNew.{ShowsEither}
+use Rattle.session_law.specs.ShowsOldOrNew.{ShowsEither, ShowsFound, ShowsSame}
 use Rattle.session_law.specs.Tasks.{finish_said}
 use Rattle.session_law.specs.TasksInOrder.{IsGivenBy}
+use Rattle.session_law.specs.declared.BuildDocument.{BuildDocument}
 
 -- the client cancels the request with this id
 pub record IsCancelOf (body : List ℕ) (id : Id) : Type 0 where
@@ -52,10 +55,26 @@ goes_on cancel closed = ap (λ m. exit_status m closed) cancel.means
 abbrev AnyBuilds : List Told → Type 0
 AnyBuilds builds = Unit {0}
 
+-- of each document the list that the build finds is shown, or the one that was shown as it was handed its documents
+abbrev pub ShowsEach : Given → Table → Type 0
+ShowsEach g table = All (λ document. ShowsFound g.active table document ⊎ ShowsSame table g.table document) g.documents
+
+-- so it is before anything is published
+pub shows_old : (g : Given) (table : Table) → table ≡ g.table → ShowsEach g table
+shows_old g table same k d h = inr (ap (λ t. t (get_or g.documents k d).key.document (get_or g.documents k d).key.target) same)
+
+-- and where the list of one document was
+pub shows_new : (g : Given) (table : Table) (before rest : List BuildDocument) (document : BuildDocument) → g.documents ≡ before ++ document ∷ rest → ShowsFound g.active table document
+    → All (ShowsSame table g.table) before → All (ShowsSame table g.table) rest → ShowsEach g table
+shows_new g table before rest document are found first last =
+    subst (All (λ d. ShowsFound g.active table d ⊎ ShowsSame table g.table d)) (sym are)
+    (All-append (λ d. ShowsFound g.active table d ⊎ ShowsSame table g.table d) before (document ∷ rest) (λ k d h. inr (first k d h))
+    (All-cons (λ d. ShowsFound g.active table d ⊎ ShowsSame table g.table d) document rest (inl found) (λ k d h. inr (last k d h))))
+
 module _ (past : List Event) (lawful : EachAllowed past) (g : Given) (id : Id) (number : ℕ) (targets : List BuildTargetIdentifier) (origin : Option (List ℕ))
     (open_is : (after past).requests ≡ working_on g false ∷ asking_for id number (queued (to_build targets origin)) ∷ []) (apart : same_id id g.active.id ≡ false)
     (by_build : IsGivenBy g.active (after past) g) (told : List Said) (told_is : (after past).notices ≡ told) (one : HasOneOut g told)
-    (quiet : (after past).table ≡ g.table) (nulls_is : (after past).nulls ≡ []) (status_is : (after past).status ≡ None)
+    (shown_each : ShowsEach g (after past).table) (nulls_is : (after past).nulls ≡ []) (status_is : (after past).status ≡ None)
     (first second : List ℕ) (cancels_first : IsCancelOf first g.active.id) (cancels_second : IsCancelOf second id)
     (framed : All IsFramed (gives_up g)) (framed_first : IsFramed (answered_cancelled g)) (framed_second : IsFramed (cancelled_said id origin)) where
   abbrev waits : Asked
@@ -206,16 +225,16 @@ module _ (past : List Event) (lawful : EachAllowed past) (g : Given) (id : Id) (
 
   -- ---- it is answered
 
-  -- a client shows what it showed as the documents were handed out
-  shown_still : table_behind (gives_up g) (after past).table ≡ g.table
-  shown_still = tasks_show_nothing (gives_up g) (after past).table (λ k d h. (all_of_cancel by_these k d h).tells) ∙ quiet
+  -- none of these messages changes what a client shows
+  shown_still : table_behind (gives_up g) (after past).table ≡ (after past).table
+  shown_still = tasks_show_nothing (gives_up g) (after past).table (λ k d h. (all_of_cancel by_these k d h).tells)
 
   shows : ShowsEither g.active g.table (table_behind (gives_up g) (after past).table)
   shows =
       record {
         documents = g.documents;
         of_build = by_build.are.documents;
-        each = λ k d h. inr (ap (λ table. table (get_or g.documents k d).key.document (get_or g.documents k d).key.target) shown_still);
+        each = subst (ShowsEach g) (sym shown_still) shown_each;
       }
 
   answered_first : Mid plain_given_up AnyBuilds nothing all_answered

@@ -1,13 +1,15 @@
--- Wrong rows in which the next body is taken, or the end of the input is found, too early.
-use Rattle.std.proofs.Common.{◌≡◌, ℕ, List, ◌∷◌, true, Contains, sym, subst, ◌∙◌}
+-- Wrong rows in which the next body is taken, or the end of the input is found, too early; and in which the tree answers
+-- where no request waits for it.
+use Rattle.std.proofs.Common.{◌≡◌, ℕ, List, ◌∷◌, true, Contains, Option, sym, subst, ◌∙◌}
 use Rattle.std.proofs.lemmas.Bool.{false≢true}
 use Rattle.std.proofs.lemmas.List.Elements.{All-contains}
 use Rattle.session_law.specs.AnswersAtOnce.{HeadIsUp, IsCaughtUp, IsUp, Waits}
-use Rattle.session_law.specs.Lawful.{EndAllowed, TakeAllowed}
-use Rattle.session_law.specs.Methods.{Call, queued}
+use Rattle.ob_text.specs.Held.{Entries}
+use Rattle.session_law.specs.Lawful.{EndAllowed, HandAllowed, TakeAllowed}
+use Rattle.session_law.specs.Methods.{Build, Call, built, due_in, queued}
 use Rattle.session_law.specs.Order.{Event}
 use Rattle.session_law.specs.Past.{after}
-use Rattle.session_law.specs.Requests.{Asked}
+use Rattle.session_law.specs.Requests.{Asked, IsWanted, WantedBy, Wants, first_up}
 use Rattle.session_law.specs.declared.InputEnd.{InputEnd}
 
 -- ---- what a cancel owes isn't written yet
@@ -37,3 +39,18 @@ module _ (past : List Event) (asked : Asked) (rest : List Asked) (open_is : (aft
   -- So is the end of the input.
   pub not_ended_while_it_waits : (how : InputEnd) → EndAllowed (after past) how → ⊥
   not_ended_while_it_waits how allowed = is_left allowed.answered
+
+-- ---- the tree answers in vain
+
+module _ (past : List Event) (asked : Asked) (rest : List Asked) (open_is : (after past).requests ≡ asked ∷ rest) (handed : Option Entries) (allowed : HandAllowed (after past) handed) where
+  -- the tree answers for the oldest request alone
+  for_oldest : IsWanted (record asked { verdict = due_in (after past).force asked.verdict }) allowed.paths
+  for_oldest = subst (λ requests. WantedBy (first_up (after past).force requests) allowed.paths) open_is allowed.wanted
+
+  -- That is a build which was handed its documents: the tree answers once more for it, or for one that waits behind it.
+  pub not_handed_behind_a_build : (build : Build) (entries : Entries) → asked.verdict ≡ built build entries → ⊥
+  not_handed_behind_a_build build entries is = subst (λ v. Wants (due_in (after past).force v) allowed.paths) is for_oldest.wants
+
+  -- It is to be cancelled.
+  pub not_handed_behind_its_cancel : asked.cancelled ≡ true → ⊥
+  not_handed_behind_its_cancel mark = false≢true (sym for_oldest.goes_on ∙ mark)

@@ -29,11 +29,11 @@ result 4 2
 null 5
 ",
     ),
-    // Two targets at once.
+    // Two targets at once, each of them many times.
     (
         BUILT,
         "
-clean 3 old app
+clean 3 old app old app old app old app old app old app
 compile 4 app old
 wait
 shutdown 5

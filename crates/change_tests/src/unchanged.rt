@@ -78,46 +78,97 @@ null 6
     ),
 ];
 
-/// How many bytes a file has at least, its targets, the modules of the first, and what a reload that finds it answers.
-const SIZES: [(usize, usize, usize, &str); 4] = [
-    (262_144, 1, 1, "null 3"),
-    (262_145, 1, 1, "error 3 -32010 workspace refused: NoFile"),
+/// How large a workspace file is: its bytes at least, its targets, and the modules and dependencies of the first.
+#[derive(Clone, Copy)]
+struct Size {
+    bytes: usize,
+    targets: usize,
+    modules: usize,
+    dependencies: usize,
+}
+
+/// What a reload answers that finds a file of this size.
+const SIZES: [(Size, &str); 5] = [
     (
-        0,
-        257,
-        1,
+        Size {
+            bytes: 262_144,
+            targets: 1,
+            modules: 1,
+            dependencies: 0,
+        },
+        "null 3",
+    ),
+    (
+        Size {
+            bytes: 262_145,
+            targets: 1,
+            modules: 1,
+            dependencies: 0,
+        },
+        "error 3 -32010 workspace refused: NoFile",
+    ),
+    (
+        Size {
+            bytes: 0,
+            targets: 257,
+            modules: 1,
+            dependencies: 0,
+        },
         "error 3 -32010 workspace refused: TooMany targets",
     ),
     (
-        0,
-        1,
-        1_025,
+        Size {
+            bytes: 0,
+            targets: 1,
+            modules: 1_025,
+            dependencies: 0,
+        },
         "error 3 -32010 workspace refused: TooMany modules",
+    ),
+    (
+        Size {
+            bytes: 0,
+            targets: 2,
+            modules: 1,
+            dependencies: 1_025,
+        },
+        "error 3 -32010 workspace refused: TooMany dependencies",
     ),
 ];
 
-/// A file of so many targets, of which the first has so many modules. Blanks fill it up.
-fn file_of(alloc: Global, bytes: usize, targets: usize, modules: usize) -> Result<String, Fail> {
-    let mut text = String::from_str(
-        alloc,
-        "{\"version\":1,\"targets\":[{\"name\":\"app\",\"kind\":\"application\",\"main\":\"A\",\"modules\":[\"A.Mod\"",
-    )?;
-    for number in 1..modules {
-        let path = format!(in alloc; ",\"M{number}.Mod\"")?;
-        text.push_str(path.as_str())?;
-    }
-    text.push_str("]}")?;
-    for number in 1..targets {
+/// A file of this size. Blanks fill it up.
+fn file_of(alloc: Global, size: &Size) -> Result<String, Fail> {
+    let mut text = String::from_str(alloc, "{\"version\":1,\"targets\":[")?;
+    push_first(alloc, &mut text, size)?;
+    for number in 1..size.targets {
         let target = format!(in alloc;
             ",{{\"name\":\"t{number}\",\"kind\":\"library\",\"modules\":[]}}"
         )?;
         text.push_str(target.as_str())?;
     }
     text.push_str("]}")?;
-    for _ in text.len()..bytes {
+    for _ in text.len()..size.bytes {
         text.push(' ')?;
     }
     Ok(text)
+}
+
+/// Its first target, whose dependencies are all on the second one.
+fn push_first(alloc: Global, text: &mut String, size: &Size) -> Result<(), Fail> {
+    text.push_str(
+        "{\"name\":\"app\",\"kind\":\"application\",\"main\":\"A\",\"modules\":[\"A.Mod\"",
+    )?;
+    for number in 1..size.modules {
+        let path = format!(in alloc; ",\"M{number}.Mod\"")?;
+        text.push_str(path.as_str())?;
+    }
+    text.push_str("],\"dependencies\":[")?;
+    for number in 0..size.dependencies {
+        let name = if number == 0 { "\"t1\"" } else { ",\"t1\"" };
+        text.push_str(name)?;
+    }
+    text.push_str("]}")?;
+    Ok(())
 }
 
 const BUILT_ALONE: Row<'static> = Row {
@@ -167,8 +218,8 @@ null 6
 
 #[test]
 fn reloads_within_limits(rt: HostRuntime) -> Result<(), Fail> {
-    for &(bytes, targets, modules, answer) in &SIZES {
-        let text = file_of(rt.alloc(), bytes, targets, modules)?;
+    for &(size, answer) in &SIZES {
+        let text = file_of(rt.alloc(), &size)?;
         expect_file(rt.alloc(), &BUILT_ALONE, text.as_str(), answer)?;
     }
     Ok(())

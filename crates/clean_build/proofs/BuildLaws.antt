@@ -15,7 +15,8 @@ use Rattle.oberon_types.specs.declared.entity.View.{View}
 use Rattle.build_rules.specs.Views.{HasView}
 use Rattle.build_rules.specs.World.{World, Imports}
 use Rattle.build_sources.specs.Modules.{AreModules}
-use Rattle.clean_build.specs.Build.{HasListAt, IsListOf, IsSoFar, Slots}
+use Rattle.clean_build.proofs.SoFar.{IsSoFar}
+use Rattle.clean_build.specs.Build.{HasListAt, IsListOf, Slots}
 use Rattle.build_sources.specs.Known.{view_at}
 use Rattle.target_graph.specs.Workspace.{pairs_of}
 

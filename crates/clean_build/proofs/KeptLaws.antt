@@ -21,7 +21,8 @@ use Rattle.build_sources.proofs.KeptViews.{later_views, views_here, views_length
 use Rattle.build_sources.proofs.RowLaws.{rows_within}
 use Rattle.clean_build.proofs.BuildLaws.{one_on}
 use Rattle.build_sources.proofs.ImportLaws.{cyclic_rows}
-use Rattle.clean_build.specs.Build.{IsListOf, IsSoFar, Slots}
+use Rattle.clean_build.proofs.SoFar.{IsSoFar}
+use Rattle.clean_build.specs.Build.{IsListOf, Slots}
 use Rattle.build_sources.specs.Known.{view_at}
 use Rattle.build_sources.specs.Rows.{AreRows}
 

@@ -1,3 +1,4 @@
 pub mod BuildLaws
 pub mod KeptLaws
 pub mod OrderLaws
+pub mod SoFar

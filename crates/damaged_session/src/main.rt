@@ -1,5 +1,7 @@
 //! The program `oberon-bsp` once more, for a stored session whose input is damaged, which ends with another status.
-//! Like `oberon_bsp` it only calls `bsp_cli::run_program`.
+//!
+//! Like `oberon_bsp` it only calls `bsp_cli::run_program`, stands on `bsp_cli` and knows nothing else: begin with
+//! `bsp_cli/src/program.rt`.
 #![tactic(auto)]
 
 use bsp_cli::run_program;

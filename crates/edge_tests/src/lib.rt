@@ -1,5 +1,7 @@
-//! Tests of the public calls of `ob_text` and `bsp_edge`. They stand above those crates, so that neither is
-//! proved once more with its tests. There is nothing here to call.
+//! Tests of the public calls of `ob_text` and `bsp_edge`.
+//!
+//! They stand above those crates, so that neither is proved once more with its tests, and may know what these make public.
+//! There is nothing here to call. Begin with `trees.rt` for trees in memory and `files.rt` for a real folder.
 #![tactic(auto)]
 
 #[cfg(test)]

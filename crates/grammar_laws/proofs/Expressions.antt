@@ -11,9 +11,9 @@ use Rattle.oberon_tree.specs.declared.expression.Signed.{Signed}
 use Rattle.oberon_tree.specs.Tokens.{symbol_token, sign_token}
 use Rattle.oberon_tree.specs.Trees.{expr_of, RelationTree, no_relation, relation_of, simple_of, AddendsTree, no_addends, more_addends, TermTree, term_of, MultipliersTree, no_multipliers, more_multipliers, FactorTree, integer_factor, string_factor, true_factor, false_factor, set_factor, designator_factor, group_factor, negation_factor, set_of, ElementsTree, no_elements, some_elements, MoreElementsTree, no_more_elements, more_elements, ElementTree, element_of, UpperTree, no_upper, upper_of, designator_of, no_selectors, more_selectors, SelectorTree, field_selector, index_selector, call_selector, ArgumentsTree, no_arguments, some_arguments, ExprsTree, exprs_of, MoreExprsTree, no_more_exprs, more_exprs}
 use Rattle.oberon_tree.specs.Print.{print_sign, print_expr, print_relation, print_simple, print_addends, print_term, print_multipliers, print_factor, print_set, print_elements, print_more_elements, print_element, print_upper, print_designator, print_selectors, print_selector, print_arguments, print_exprs, print_more_exprs}
-use Rattle.oberon_parse.specs.Tests.{is_symbol, is_sign, next_is}
-use Rattle.oberon_parse.proofs.Follows.{next_reach}
-use Rattle.oberon_parse.proofs.ForthExpressions.{relator_rank, add_rank, mul_rank, expr_opens}
+use Rattle.oberon_productions.specs.Tests.{is_symbol, is_sign, next_is}
+use Rattle.oberon_productions.proofs.Follows.{next_reach}
+use Rattle.oberon_productions.proofs.ForthExpressions.{relator_rank, add_rank, mul_rank, expr_opens}
 use Rattle.grammar_laws.proofs.One.{One, Under, Lacks, Any, begins, head_one, rest_one, span_one}
 use Rattle.grammar_laws.proofs.Leaves.{ident_code, integer_code, string_code, code_of_word, code_of_symbol, next_code, ident_one, integer_one, string_one, sign_one, relator_one, add_one, mul_one}
 use Rattle.grammar_laws.proofs.Names.{member_one}

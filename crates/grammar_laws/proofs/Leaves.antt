@@ -22,7 +22,7 @@ use Rattle.oberon_tree.specs.declared.expression.MulOperator.{MulOperator}
 use Rattle.oberon_tree.specs.declared.expression.MulOperator.TheVariants as muls
 use Rattle.oberon_tree.specs.Tokens.{ident_token, integer_token, string_token, relator_kind, relator_token, sign_kind, sign_token, add_kind, add_token, mul_kind, mul_token}
 use Rattle.oberon_tree.specs.Print.{print_sign}
-use Rattle.oberon_parse.specs.Tests.{word_code, symbol_code}
+use Rattle.oberon_productions.specs.Tests.{word_code, symbol_code}
 use Rattle.grammar_laws.proofs.One.{One, Any, head_one, rest_one, span_one}
 
 -- ---- which token it is, as a number

@@ -7,8 +7,8 @@ use Rattle.oberon_tree.specs.declared.statement.LabelUpper.{LabelUpper}
 use Rattle.oberon_tree.specs.declared.statement.LabelValue.TheVariants as values
 use Rattle.oberon_tree.specs.declared.statement.NextLabel.{NextLabel}
 use Rattle.oberon_tree.specs.Print.{print_each, print_some, print_member, print_qualident, print_mark, print_ident_def, print_next_ident_def, print_ident_defs, print_next_ident, print_idents, print_value, print_label_upper, print_label, print_next_label, print_labels}
-use Rattle.oberon_parse.specs.Tests.{is_symbol}
-use Rattle.oberon_parse.proofs.ForthNames.{ident_defs_no_star}
+use Rattle.oberon_productions.specs.Tests.{is_symbol}
+use Rattle.oberon_productions.proofs.ForthNames.{ident_defs_no_star}
 use Rattle.grammar_laws.proofs.One.{One, Under, Lacks, Any, reaches, begins, head_one, rest_one, span_one, each_one, some_one}
 use Rattle.grammar_laws.proofs.Leaves.{next_code, ident_one, integer_one, string_one}
 

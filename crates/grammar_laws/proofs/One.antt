@@ -4,9 +4,9 @@ use Rattle.std.proofs.Common.{sym, ◌∙◌, ap, arith}
 use Rattle.oberon_scan.specs.declared.token.Token.{Token}
 use Rattle.oberon_scan.specs.declared.token.TokenKind.{TokenKind}
 use Rattle.oberon_tree.specs.Print.{print_each, print_some}
-use Rattle.oberon_parse.specs.Tests.{next_is}
-use Rattle.oberon_parse.proofs.Follows.{next_reach, next_stage}
-use Rattle.oberon_parse.proofs.Found.{no}
+use Rattle.oberon_productions.specs.Tests.{next_is}
+use Rattle.oberon_productions.proofs.Follows.{next_reach, next_stage}
+use Rattle.oberon_productions.proofs.Found.{no}
 
 -- Before a rest that ends them, two trees that print the same tokens are the same tree before the same rest.
 abbrev pub One : {A : Type 0} → (A → List Token → List Token) → (List Token → Type 0) → Type 0

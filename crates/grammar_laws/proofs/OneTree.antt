@@ -12,8 +12,8 @@ use Rattle.oberon_tree.specs.declared.module.NextImport.{NextImport}
 use Rattle.oberon_tree.specs.Tokens.{symbol_token, word_token, ident_token}
 use Rattle.oberon_tree.specs.Trees.{ModuleTree}
 use Rattle.oberon_tree.specs.Print.{print_each, print_some, print_declarations, print_alias, print_import, print_next_import, print_imports, print_procedure_item, print_body, print_module, tokens_of}
-use Rattle.oberon_parse.specs.Tests.{is_symbol}
-use Rattle.oberon_parse.proofs.Found.{no_symbol}
+use Rattle.oberon_productions.specs.Tests.{is_symbol}
+use Rattle.oberon_productions.proofs.Found.{no_symbol}
 use Rattle.grammar_laws.proofs.One.{One, Under, Before, Lacks, Any, reaches, stages, begins, head_one, rest_one, span_one, each_one, some_one}
 use Rattle.grammar_laws.proofs.Leaves.{ident_one}
 use Rattle.grammar_laws.proofs.Declarations.{declarations_one, declarations_next}

@@ -10,7 +10,7 @@ use Rattle.oberon_tree.specs.declared.leaf.Ident.{Ident}
 use Rattle.oberon_tree.specs.Tokens.{symbol_token, word_token, ident_token}
 use Rattle.oberon_tree.specs.Trees.{NextSectionTree, FormalsTree, BodyTree, ReturnTree, ProcedureItemTree}
 use Rattle.oberon_tree.specs.Print.{print_each, print_some, print_open_array, print_qualident, print_formal_type, print_by_var, print_idents, print_section, print_next_section, print_sections, print_result_type, print_formals, print_body, print_return, print_procedure, print_procedure_item, print_locals}
-use Rattle.oberon_parse.specs.Tests.{is_symbol, is_word, is_ident, next_is}
+use Rattle.oberon_productions.specs.Tests.{is_symbol, is_word, is_ident, next_is}
 use Rattle.grammar_laws.proofs.One.{One, Under, Before, Lacks, Any, reaches, stages, begins, head_one, rest_one, span_one, each_one, some_one}
 use Rattle.grammar_laws.proofs.Leaves.{ident_one}
 use Rattle.grammar_laws.proofs.Names.{qualident_one, ident_def_one, idents_one}

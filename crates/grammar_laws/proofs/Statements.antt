@@ -13,8 +13,8 @@ use Rattle.oberon_tree.specs.declared.statement.LabelValue.TheVariants as values
 use Rattle.oberon_tree.specs.Tokens.{symbol_token, word_token}
 use Rattle.oberon_tree.specs.Trees.{LabelsTree, designator_of, StepTree, no_step, step_of, statements_of, MoreStatementsTree, no_more_statements, more_statements, StatementTree, empty_statement, assign_statement, call_statement, if_statement, case_statement, while_statement, repeat_statement, for_statement, if_of, GuardedTree, guarded_of, ElsifsTree, no_elsifs, more_elsifs, ElseTree, no_else, else_of, case_of, empty_arm, labelled_arm, MoreArmsTree, no_more_arms, more_arms, while_of, repeat_of, for_of}
 use Rattle.oberon_tree.specs.Print.{print_value, print_labels, print_step, print_expr, print_statements, print_more_statements, print_statement, print_if, print_guarded, print_elsifs, print_else, print_case, print_arm, print_more_arms, print_while, print_repeat, print_for}
-use Rattle.oberon_parse.specs.Tests.{is_word, is_ident, is_literal, reach, word_reach, next_is}
-use Rattle.oberon_parse.proofs.Follows.{next_reach}
+use Rattle.oberon_productions.specs.Tests.{is_word, is_ident, is_literal, reach, word_reach, next_is}
+use Rattle.oberon_productions.proofs.Follows.{next_reach}
 use Rattle.grammar_laws.proofs.One.{One, Under, Lacks, Any, begins, head_one, rest_one, span_one}
 use Rattle.grammar_laws.proofs.Leaves.{next_code, ident_one}
 use Rattle.grammar_laws.proofs.Names.{labels_one}

@@ -7,7 +7,7 @@ use Rattle.oberon_scan.specs.declared.token.Symbol.TheVariants as symbols
 use Rattle.oberon_tree.specs.Tokens.{symbol_token, word_token}
 use Rattle.oberon_tree.specs.Trees.{TypeTree, named_type, array_type, record_type, record_of, FieldListsTree, no_fields, some_fields, MoreFieldsTree, no_more_fields, more_fields, FieldsTree, fields_of}
 use Rattle.oberon_tree.specs.Print.{print_some, print_base, print_type, print_record, print_field_lists, print_more_fields, print_fields}
-use Rattle.oberon_parse.proofs.Follows.{next_reach}
+use Rattle.oberon_productions.proofs.Follows.{next_reach}
 use Rattle.grammar_laws.proofs.One.{One, Under, Any, reaches, rest_one, span_one, some_one}
 use Rattle.grammar_laws.proofs.Leaves.{ident_code, code_of_word, next_code}
 use Rattle.grammar_laws.proofs.Names.{qualident_one, ident_defs_one}

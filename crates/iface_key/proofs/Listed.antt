@@ -4,8 +4,13 @@ use Rattle.std.proofs.Common.{ap, sym, ◌∙◌, subst}
 use Rattle.std.specs.Prelude.{Result, Err, MatchResult, IsErrAnd}
 use Rattle.std.proofs.lemmas.Result.{err_from_is_err_and}
 use Rattle.iface_key.specs.declared.fault.Fault.{Fault}
-use Rattle.iface_key.specs.Read.{BeginsWithNone, so_far}
+use Rattle.iface_key.specs.Read.{BeginsWithNone}
 use Rattle.iface_key.proofs.OneWay.{OneWay}
+
+-- items in front of a rest, with no end
+abbrev pub so_far : {A : Type 0} → (Option A → List ℕ → List ℕ) → List A → List ℕ → List ℕ
+so_far next_then [] rest = rest
+so_far next_then (x ∷ xs) rest = next_then (Some x) (so_far next_then xs rest)
 
 -- a list is its items, each as it is read, and then the end
 pub record Listing {A : Type 0} (next_then : Option A → List ℕ → List ℕ) (all_then : List A → List ℕ → List ℕ) : Type 0 where

@@ -10,10 +10,10 @@ use Rattle.oberon_types.specs.Entities.{ParamTree, EntityTree, constant_entity, 
 use Rattle.oberon_types.specs.Memory.{plain_export, plain_view}
 use Rattle.iface_key.specs.Keys.{bool_then, text_then, list_then, option_then, value_then, type_then, param_then, signature_then, entity_then, export_then, view_then, KeyOf}
 use Rattle.iface_key.specs.Views.{IsType, IsParam, AreParams, IsResult, IsSignature, IsEntity, IsExport, export_names, AreExports, IsView}
-use Rattle.iface_key.specs.Read.{BeginsWithNone, Any, so_far}
+use Rattle.iface_key.specs.Read.{BeginsWithNone, Any}
 use Rattle.iface_key.specs.ReadViews.{IsNextParam, IsNextExport}
 use Rattle.iface_key.proofs.OneWay.{bool_one, text_one, list_one, param_one, export_one, view_one}
-use Rattle.iface_key.proofs.Listed.{Listing, rest_of}
+use Rattle.iface_key.proofs.Listed.{Listing, rest_of, so_far}
 use Rattle.iface_key.proofs.PartLaws.{option_listing, no_option_item}
 
 pub item_in : {A : Type 0} (P : A → Type 0) (xs zs : List A) (z : A) → All P (xs ++ z ∷ zs) → P z

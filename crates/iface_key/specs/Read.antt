@@ -1,5 +1,5 @@
 -- What it means to read a part from the front of a text.
-use Rattle.std.specs.Prelude.{ℕ, ◌≡◌, List, [], ◌∷◌, Option, Some, None, Result, MatchResult, nat_lt, if◌then◌else◌}
+use Rattle.std.specs.Prelude.{ℕ, ◌≡◌, List, ◌∷◌, Option, Some, None, Result, MatchResult, nat_lt, if◌then◌else◌}
 use Rattle.std.specs.declared.alloc.Global.{Global}
 use Rattle.std.specs.declared.vec.Vec.{Vec}
 use Rattle.std.specs.Borrow.{Bor}
@@ -20,11 +20,6 @@ Any x = Unit {0}
 
 abbrev pub same : {A : Type 0} → A → A
 same x = x
-
--- items in front of a rest, with no end
-abbrev pub so_far : {A : Type 0} → (Option A → List ℕ → List ℕ) → List A → List ℕ → List ℕ
-so_far next_then [] rest = rest
-so_far next_then (x ∷ xs) rest = next_then (Some x) (so_far next_then xs rest)
 
 -- the next byte of a text, or its end
 abbrev pub letter_then : Option ℕ → List ℕ → List ℕ

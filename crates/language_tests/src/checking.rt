@@ -46,7 +46,7 @@ fn shown(alloc: Global, text: &str) -> Result<String, Fail> {
 #[test]
 fn diagnoses_each_text(rt: HostRuntime) -> Result<(), Fail> {
     let alloc = rt.alloc();
-    for (text, want) in TABLE {
+    for &(text, want) in &TABLE {
         assert_eq!(rt; shown(alloc, text)?.as_str(), want, "{text:?}");
     }
     Ok(())
@@ -90,7 +90,7 @@ fn in_parentheses(alloc: Global, count: usize) -> Result<String, AllocError> {
 #[test]
 fn opens_sixty_four_levels(rt: HostRuntime) -> Result<(), Fail> {
     let alloc = rt.alloc();
-    for (count, want) in PARENTHESES {
+    for &(count, want) in &PARENTHESES {
         let text = in_parentheses(alloc, count)?;
         assert_eq!(rt; shown(alloc, text.as_str())?.as_str(), want);
     }

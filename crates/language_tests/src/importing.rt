@@ -35,7 +35,7 @@ fn imported(alloc: Global, tree: &Tree) -> Result<String, Fail> {
 #[test]
 fn names_each_import_once(rt: HostRuntime) -> Result<(), Fail> {
     let alloc = rt.alloc();
-    for (imports, want) in IMPORTS {
+    for &(imports, want) in &IMPORTS {
         let tree = copied(alloc, imports)?;
         assert_eq!(rt; imported(alloc, &tree)?.as_str(), want, "{imports}");
     }

@@ -204,7 +204,7 @@ const TEXTS: [(&str, Option<usize>); 12] = [
 #[test]
 fn finds_it_in_whole_texts(rt: HostRuntime) -> Result<(), Fail> {
     let alloc = rt.alloc();
-    for (text, want) in TEXTS {
+    for &(text, want) in &TEXTS {
         assert_eq!(rt; first_bad(alloc, text)?, want, "{text}");
     }
     Ok(())
@@ -344,7 +344,7 @@ fn bad_in_nest(alloc: Global, nest: &Nest, count: usize) -> Result<Option<usize>
 #[test]
 fn opens_sixty_four_levels(rt: HostRuntime) -> Result<(), Fail> {
     let alloc = rt.alloc();
-    for nest in NESTS {
+    for &nest in &NESTS {
         assert_eq!(rt;
             bad_in_nest(alloc, &nest, nest.most)?,
             None,

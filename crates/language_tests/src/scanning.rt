@@ -141,7 +141,7 @@ fn value_of(alloc: Global, kind: &TokenKind) -> Result<String, AllocError> {
 #[test]
 fn scans_each_kind(rt: HostRuntime) -> Result<(), Fail> {
     let alloc = rt.alloc();
-    for (text, tokens, faults) in TABLE {
+    for &(text, tokens, faults) in &TABLE {
         let found = scanned(alloc, text)?;
         assert_eq!(rt;
             told(alloc, &found.tokens)?.as_str(),
@@ -202,7 +202,7 @@ fn last_of(alloc: Global, faults: &[Diagnostic]) -> Result<String, AllocError> {
 #[test]
 fn sweeps_large_texts(rt: HostRuntime) -> Result<(), Fail> {
     let alloc = rt.alloc();
-    for (front, middle, back, (tokens, faults), last) in LARGE {
+    for &(front, middle, back, (tokens, faults), last) in &LARGE {
         let found = large(alloc, front, middle, back)?;
         assert_eq!(rt; found.tokens.len(), tokens);
         assert_eq!(rt; found.faults.len(), faults);

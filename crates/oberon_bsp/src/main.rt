@@ -1,4 +1,7 @@
-//! The program `oberon-bsp`. It stands on `bsp_cli`, which does all of its work: begin with `bsp_cli/src/run.rt`.
+//! The program `oberon-bsp`, with its stored session.
+//!
+//! It stands on `bsp_cli`, which does all of its work, and knows of it `run_program` alone: begin with
+//! `bsp_cli/src/program.rt`, and then with `bsp_cli/src/run.rt`.
 #![tactic(auto)]
 
 use bsp_cli::run_program;

@@ -11,7 +11,20 @@ use Rattle.oberon_rules.specs.Constants.{add_op, mul_op, meaning_const, word_con
 use Rattle.oberon_rules.specs.Scopes.{Meaning, unknown_meaning, constant_meaning, type_meaning, variable_meaning, procedure_meaning, word_meaning, import_meaning, Scopes}
 use Rattle.oberon_types.specs.declared.constant.FoldingFunction.{FoldingFunction}
 use Rattle.oberon_constants.specs.declared.folding.SetFolding.{SetFolding}
-use Rattle.oberon_constants.specs.Foldings.{folding_of, signed_folding, relation_folding, related_folding, addends_folding, multipliers_folding, no_folding, named_folding, is_folding, call_folding, called_with_one, called_with_two, called_with_more, element_folding, elements_folding, set_folding}
+use Rattle.oberon_constants.specs.Foldings.{folding_of, signed_folding, relation_folding, related_folding, no_folding, named_folding, is_folding, call_folding, called_with_one, called_with_two, called_with_more, element_folding, set_folding, binary_folding}
+use Rattle.oberon_constants.specs.declared.folding.Folding.{Folding}
+
+abbrev pub addends_folding : Scopes → Folding → AddendsTree → Folding
+addends_folding s f no_addends = f
+addends_folding s f (more_addends o place t more) = addends_folding s (binary_folding (add_op o) f (folding_of (term_const s t))) more
+
+abbrev pub multipliers_folding : Scopes → Folding → MultipliersTree → Folding
+multipliers_folding s f no_multipliers = f
+multipliers_folding s f (more_multipliers o place x more) = multipliers_folding s (binary_folding (mul_op o) f (folding_of (factor_const s x))) more
+
+abbrev pub elements_folding : Scopes → SetFolding → MoreElementsTree → SetFolding
+elements_folding s r no_more_elements = r
+elements_folding s r (more_elements comma e more) = elements_folding s (element_folding s r e) more
 
 pub signed_folds : (sign : Option Signed) (c : ConstTree) → signed_folding sign (folding_of c) ≡ folding_of (signed_const sign c)
 signed_folds None c = refl

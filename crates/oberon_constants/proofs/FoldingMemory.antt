@@ -26,8 +26,8 @@ use Rattle.oberon_types.specs.declared.constant.Op.{Op}
 use Rattle.oberon_rules.specs.Scopes.{Scopes}
 use Rattle.oberon_constants.specs.declared.folding.Folding.{Folding}
 use Rattle.oberon_constants.specs.declared.folding.SetFolding.{SetFolding}
-use Rattle.oberon_constants.specs.Foldings.{folding_of, no_folding, named_folding, call_folding, called_with_one, called_with_two, called_with_more, binary_folding, signed_folding, relation_folding, related_folding, addends_folding, multipliers_folding, range_folding, element_folding, elements_folding, set_folding}
-use Rattle.oberon_constants.proofs.FoldingLaws.{name_folds, one_called, two_called, more_called, signed_folds, related_folds, addends_fold, multipliers_fold, set_folds}
+use Rattle.oberon_constants.specs.Foldings.{folding_of, no_folding, named_folding, call_folding, called_with_one, called_with_two, called_with_more, binary_folding, signed_folding, relation_folding, related_folding, range_folding, element_folding, set_folding}
+use Rattle.oberon_constants.proofs.FoldingLaws.{name_folds, one_called, two_called, more_called, signed_folds, related_folds, addends_fold, multipliers_fold, set_folds, addends_folding, multipliers_folding, elements_folding}
 
 -- ---- relations
 

@@ -4,13 +4,13 @@ use Rattle.std.specs.Option.{is_some, option_and_then}
 use Rattle.oberon_tree.specs.declared.expression.Relator.{Relator}
 use Rattle.oberon_tree.specs.declared.expression.Relator.TheVariants as relators
 use Rattle.oberon_tree.specs.declared.expression.Signed.{Signed}
-use Rattle.oberon_tree.specs.Trees.{RelationTree, no_relation, relation_of, AddendsTree, no_addends, more_addends, MultipliersTree, no_multipliers, more_multipliers, MoreElementsTree, no_more_elements, more_elements, ElementTree, element_of, no_upper, upper_of}
+use Rattle.oberon_tree.specs.Trees.{RelationTree, no_relation, relation_of, ElementTree, element_of, no_upper, upper_of}
 use Rattle.oberon_types.specs.declared.constant.Op.{Op}
 use Rattle.oberon_types.specs.declared.constant.Op.TheVariants as ops
 use Rattle.oberon_types.specs.declared.constant.FoldingFunction.{FoldingFunction}
 use Rattle.oberon_types.specs.declared.value.Value.{Value}
 use Rattle.oberon_types.specs.Folding.{ConstTree, PartsTree, is_built, parts_built, value_of, value_op, binary_value, call_value, call_one, call_two, with_range, end_value, set_value, Folded, not_constant, in_range}
-use Rattle.oberon_rules.specs.Constants.{add_op, mul_op, sign_op, folds, expr_const, simple_const, term_const, factor_const}
+use Rattle.oberon_rules.specs.Constants.{sign_op, folds, expr_const, simple_const}
 use Rattle.oberon_rules.specs.Scopes.{Meaning, constant_meaning, word_meaning, Scopes}
 use Rattle.oberon_constants.specs.declared.folding.Folding.{Folding}
 use Rattle.oberon_constants.specs.declared.folding.SetFolding.{SetFolding}
@@ -57,14 +57,6 @@ abbrev pub related_folding : Scopes → Folding → RelationTree → Folding
 related_folding s f no_relation = f
 related_folding s f (relation_of o place b) = relation_folding o f (folding_of (simple_const s b))
 
-abbrev pub addends_folding : Scopes → Folding → AddendsTree → Folding
-addends_folding s f no_addends = f
-addends_folding s f (more_addends o place t more) = addends_folding s (binary_folding (add_op o) f (folding_of (term_const s t))) more
-
-abbrev pub multipliers_folding : Scopes → Folding → MultipliersTree → Folding
-multipliers_folding s f no_multipliers = f
-multipliers_folding s f (more_multipliers o place x more) = multipliers_folding s (binary_folding (mul_op o) f (folding_of (factor_const s x))) more
-
 -- ---- names and calls
 
 abbrev pub named_folding : Meaning → Folding
@@ -100,7 +92,3 @@ set_folding r = record { built = r.built; value = set_value r.set }
 abbrev pub element_folding : Scopes → SetFolding → ElementTree → SetFolding
 element_folding s r (element_of e no_upper) = range_folding r (folding_of (expr_const s e)) (folding_of (expr_const s e))
 element_folding s r (element_of e (upper_of dots f)) = range_folding r (folding_of (expr_const s e)) (folding_of (expr_const s f))
-
-abbrev pub elements_folding : Scopes → SetFolding → MoreElementsTree → SetFolding
-elements_folding s r no_more_elements = r
-elements_folding s r (more_elements comma e more) = elements_folding s (element_folding s r e) more

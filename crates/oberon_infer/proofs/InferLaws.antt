@@ -34,11 +34,11 @@ use Rattle.oberon_infer.specs.Adds.{Goes, Adds}
 use Rattle.oberon_infer.specs.Bare.{is_alone, has_multipliers}
 use Rattle.oberon_infer.specs.Given.{Given, none_given, one_given, given_with, given_behind}
 use Rattle.oberon_infer.specs.Parts.{operand_rows, end_rows, wants_of, guard_of, called_rows}
-use Rattle.oberon_infer.specs.Sets.{is_whole_set, set_says, is_whole_element, are_whole}
+use Rattle.oberon_infer.specs.Sets.{is_whole_set, set_says, is_whole_element}
 use Rattle.oberon_infer.proofs.AddsLaws.{adds_then, adds_as, goes_on, goes_end, goes_to}
 use Rattle.oberon_infer.proofs.ExpressionLaws.{set_filled, element_single, element_range, end_said}
 use Rattle.oberon_infer.proofs.LoopLaws.{addends_step, multipliers_step, elements_step, exprs_step, selectors_step, elements_behind, behind_all}
-use Rattle.oberon_infer.proofs.PartLaws.{whole_all, wants_parts, call_said}
+use Rattle.oberon_infer.proofs.PartLaws.{whole_all, wants_parts, call_said, are_whole}
 use Rattle.oberon_infer.proofs.TurnLaws.{simple_done, simple_said, addend_is, addend_said, term_done, term_said, multiplier_is, multiplier_said, selector_is, selector_said, index_said, indices_said, argument_said, arguments_said}
 
 module _ (me : List ℕ) (s : Scopes) where

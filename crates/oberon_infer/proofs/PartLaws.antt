@@ -20,7 +20,12 @@ use Rattle.ob_text.specs.declared.code.Code.TheVariants as codes_of
 use Rattle.oberon_infer.specs.Bare.{is_alone, has_multipliers, ex_meant, meant_of_module}
 use Rattle.oberon_infer.specs.Given.{Given, none_given, many_given, given_behind, word_given}
 use Rattle.oberon_infer.specs.Parts.{operand_rows, related_is, related_says, wants_of, field_rows, member_selected, indexed_part, guard_of, called_with, called_rows}
-use Rattle.oberon_infer.specs.Sets.{is_whole_element, are_whole, is_whole_set, set_says}
+use Rattle.oberon_infer.specs.Sets.{is_whole_element, is_whole_set, set_says}
+
+-- with these behind
+abbrev pub are_whole : List ℕ → Scopes → Bool → MoreElementsTree → Bool
+are_whole me s w no_more_elements = w
+are_whole me s w (more_elements comma e more) = are_whole me s (w && is_whole_element me s e) more
 
 -- ---- operators
 

@@ -8,7 +8,11 @@ use Rattle.oberon_types.specs.Entities.{EntityTree, Export}
 use Rattle.oberon_rules.specs.Order.{name_before}
 use Rattle.oberon_rules.specs.Scopes.{Entry}
 use Rattle.oberon_rules.specs.Views.{put_in, put_entity, entity_of, exported_in, is_interface_too_large, weight_of_entity, interface_weight}
-use Rattle.oberon_module.specs.Exported.{weight_of_option, weight_of_meaning, weight_of_exported, weight_of_binding, weight_at, weight_of_bindings}
+use Rattle.oberon_module.specs.Exported.{weight_of_option, weight_of_meaning, weight_of_exported, weight_of_binding, weight_at}
+
+abbrev pub weight_of_bindings : List Entry → ℕ
+weight_of_bindings [] = 0
+weight_of_bindings (e ∷ es) = weight_of_exported e.exported e.meaning + weight_of_bindings es
 
 swapped : (a b c : ℕ) → a + (b + c) ≡ b + (a + c)
 swapped a b c = omega arith

@@ -1,9 +1,9 @@
 -- What the exports of a scope weigh, in the order of declaration.
-use Rattle.std.specs.Prelude.{ℕ, ◌+◌, Bool, if◌then◌else◌, List, [], ◌∷◌, Option, Some, None}
+use Rattle.std.specs.Prelude.{ℕ, Bool, if◌then◌else◌, List, Option, Some, None}
 use Rattle.oberon_types.specs.Entities.{EntityTree}
 use Rattle.oberon_infer.specs.declared.scope.Binding.{Binding}
 use Rattle.oberon_infer.specs.Memory.{plain_meaning}
-use Rattle.oberon_rules.specs.Scopes.{Meaning, Entry}
+use Rattle.oberon_rules.specs.Scopes.{Meaning}
 use Rattle.oberon_rules.specs.Views.{entity_of, weight_of_entity}
 
 abbrev pub weight_of_option : Option EntityTree → ℕ
@@ -22,7 +22,3 @@ weight_of_binding b = weight_of_exported b.exported (plain_meaning b.meaning)
 abbrev pub weight_at : Option (List ℕ × Binding) → ℕ
 weight_at None = 0
 weight_at (Some p) = weight_of_binding p.1
-
-abbrev pub weight_of_bindings : List Entry → ℕ
-weight_of_bindings [] = 0
-weight_of_bindings (e ∷ es) = weight_of_exported e.exported e.meaning + weight_of_bindings es

@@ -121,7 +121,8 @@ fn add_shown(kept: &mut Vec<Field>, shown: Option<Field>) -> Result<(), NoMemory
     Ok(())
 }
 
-/// What the weight of the type as a view has it leaves over. Takes no memory, and looks at no more than is left.
+/// What the weight of the type as a view has it leaves over. Takes no memory. Of what weighs something it looks at no
+/// more than is left.
 #[cycle(left)]
 pub fn weight_left(ty: &Ty, left: u32) -> u32
     ensures { result ≡ left - weight [] (written (plain_ty ty.now)) }

@@ -11,15 +11,15 @@ use Rattle.oberon_tree.specs.declared.leaf.Ident.{Ident}
 use Rattle.oberon_tree.specs.declared.statement.LabelValue.TheVariants as values
 use Rattle.oberon_tree.specs.Trees.{no_relation, no_addends, no_multipliers, integer_factor, no_elements, no_more_elements, no_upper, no_selectors, no_arguments, no_more_exprs, named_type, no_fields, no_more_fields, no_step, no_more_statements, empty_statement, no_elsifs, no_else, empty_arm, no_more_arms, ModuleTree}
 use Rattle.oberon_parse.specs.declared.whole.ParseRefusal.TheVariants as refusals
-use Rattle.oberon_parse.specs.Expected.{Expected}
-use Rattle.oberon_parse.specs.Expected as want
-use Rattle.oberon_parse.specs.Tests.{is_word, is_symbol, is_ident, is_literal, is_sign, is_constant}
-use Rattle.oberon_parse.specs.Machine.{Move, takes, passes, refuses, needs, deeper, begins_factor, begins_expr, move, may_miss, feed, may_end, stops, module_parts, expr_parts, exprs_parts, section_tail}
+use Rattle.oberon_productions.specs.Expected.{Expected}
+use Rattle.oberon_productions.specs.Expected as want
+use Rattle.oberon_productions.specs.Tests.{is_word, is_symbol, is_ident, is_literal, is_sign, is_constant}
+use Rattle.oberon_productions.specs.Machine.{Move, takes, passes, refuses, needs, deeper, begins_factor, begins_expr, move, may_miss, feed, may_end, stops, module_parts, expr_parts, exprs_parts, section_tail}
 use Rattle.oberon_parse.specs.Sentence.{IsSentence, IsFront, IsFirstBad, most_levels}
-use Rattle.oberon_parse.proofs.Found.{no}
-use Rattle.oberon_parse.proofs.Parts.{Shape, spell, deep, limit, Part, Parts, parts_split, parts_join}
-use Rattle.oberon_parse.proofs.Back.{part_taken}
-use Rattle.oberon_parse.proofs.ForthModules.{over_module}
+use Rattle.oberon_productions.proofs.Found.{no}
+use Rattle.oberon_productions.proofs.Parts.{Shape, spell, deep, limit, Part, Parts, parts_split, parts_join}
+use Rattle.oberon_productions.proofs.Back.{part_taken}
+use Rattle.oberon_productions.proofs.ForthModules.{over_module}
 
 -- ---- the shortest tree of each part
 

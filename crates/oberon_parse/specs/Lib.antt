@@ -1,5 +1,1 @@
-pub mod Expected
-pub mod Machine
-pub mod Reading
 pub mod Sentence
-pub mod Tests

@@ -8,16 +8,14 @@ ghost use Rattle.oberon_tree.specs.Tokens.{symbol_token, word_token, ident_token
 ghost use Rattle.oberon_tree.specs.Print.{print_some, print_each, print_alias, print_import, print_next_import, print_imports, print_body, print_module};
 ghost use Rattle.oberon_tree.specs.Levels.{depth_of_some, depth_of_body, depth_of_module};
 ghost use Rattle.oberon_tree.specs.Memory.{imports_tree, body_tree, module_tree};
-ghost use Rattle.oberon_parse.specs.Expected as want;
-ghost use Rattle.oberon_parse.specs.Machine.{import_parts, module_parts};
-ghost use Rattle.oberon_parse.specs.Reading.{ReadsParts, StopsAt};
+ghost use Rattle.oberon_productions.specs.Expected as want;
+ghost use Rattle.oberon_productions.specs.Machine.{import_parts, module_parts};
+ghost use Rattle.oberon_productions.specs.Reading.{ReadsParts, StopsAt};
 
-use crate::declaration::declarations;
-use crate::join::keeping;
-use crate::procedure::{body, procedures};
-use crate::read::{need_ident, need_symbol, need_word, symbol, word};
-use crate::stop::Stop;
 use ob_text::Span;
+use oberon_productions::{
+    Stop, body, declarations, keeping, need_ident, need_symbol, need_word, procedures, symbol, word,
+};
 use oberon_scan::{Symbol, Token, Word};
 use oberon_tree::{Alias, Body, Ident, Import, Imports, Module, NextImport};
 use std::alloc::Global;

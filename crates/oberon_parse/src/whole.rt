@@ -2,11 +2,11 @@ ghost use Rattle.std.specs.Prelude.{◌≡◌, ℕ, ◌≤◌, Some, IfOk, IfErr
 ghost use Rattle.oberon_tree.specs.Print.{tokens_of};
 ghost use Rattle.oberon_tree.specs.Levels.{depth_of_module};
 ghost use Rattle.oberon_tree.specs.Memory.{module_tree, tree_of};
-ghost use Rattle.oberon_parse.specs.Machine.{module_parts, stops};
+ghost use Rattle.oberon_productions.specs.Machine.{module_parts, stops};
 ghost use Rattle.oberon_parse.specs.Sentence.{IsFirstBad, most_levels};
 
-use crate::stop::Stop;
 use crate::top::any_module;
+use oberon_productions::Stop;
 use oberon_scan::Token;
 use oberon_tree::{Module, Tree};
 use std::alloc::Global;

@@ -13,7 +13,7 @@ use Rattle.oberon_infer.specs.Adds.{Adds}
 use Rattle.oberon_infer.proofs.AddsLaws.{adds_then, adds_as, goes_on, goes_end}
 use Rattle.oberon_statements.specs.declared.judged.CaseLabels.{CaseLabels}
 use Rattle.oberon_statements.specs.Labels.{Knows, Judges}
-use Rattle.oberon_statements.specs.Left.{next_labels, LeftLabels}
+use Rattle.oberon_statements.proofs.Left.{next_labels, LeftLabels}
 
 -- ---- one label
 

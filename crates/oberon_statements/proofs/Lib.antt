@@ -1,3 +1,4 @@
 pub mod LabelLaws
+pub mod Left
 pub mod RowLaws
 pub mod StatementLaws

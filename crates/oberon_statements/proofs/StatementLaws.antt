@@ -23,7 +23,7 @@ use Rattle.oberon_infer.specs.Adds.{Goes, Adds}
 use Rattle.oberon_infer.proofs.AddsLaws.{adds_then, adds_as, goes_on, goes_end}
 use Rattle.oberon_statements.specs.declared.judged.CaseLabels.{CaseLabels}
 use Rattle.oberon_statements.specs.Labels.{Knows, Judges}
-use Rattle.oberon_statements.specs.Left.{LeftArms}
+use Rattle.oberon_statements.proofs.Left.{LeftArms}
 
 module _ (me : List ℕ) (s : Scopes) where
   -- ---- statements behind one another

@@ -1,4 +1,3 @@
 pub mod Controls
 pub mod Labels
-pub mod Left
 pub mod Returns

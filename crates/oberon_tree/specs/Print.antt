@@ -6,7 +6,6 @@ use Rattle.oberon_scan.specs.declared.token.Token.{Token}
 use Rattle.oberon_scan.specs.declared.token.Word.{Word}
 use Rattle.oberon_scan.specs.declared.token.Word.TheVariants as words
 use Rattle.oberon_scan.specs.declared.token.Symbol.TheVariants as symbols
-use Rattle.oberon_tree.specs.declared.leaf.Ident.{Ident}
 use Rattle.oberon_tree.specs.declared.leaf.Qualident.{Qualident}
 use Rattle.oberon_tree.specs.declared.leaf.Member.{Member}
 use Rattle.oberon_tree.specs.declared.leaf.IdentDef.{IdentDef}
@@ -41,9 +40,6 @@ print_some print None rest = rest
 print_some print (Some x) rest = print x rest
 
 -- ---- names
-
-abbrev pub print_ident : Ident → List Token → List Token
-print_ident i rest = ident_token i ∷ rest
 
 abbrev pub print_member : Member → List Token → List Token
 print_member m rest = symbol_token symbols.Period m.period ∷ ident_token m.name ∷ rest

@@ -76,7 +76,7 @@ const CUT: [(&[u8], &[&[u8]], bool); 2] = [
 
 #[test]
 fn cuts_in_any_pieces(rt: HostRuntime) -> Result<(), Fail> {
-    for (stream, bodies, border) in CUT {
+    for &(stream, bodies, border) in &CUT {
         assert!(rt; stream.len() < 200);
         for size in 1..=stream.len() {
             let outcome = read(rt.alloc(), stream, size)?;
@@ -135,7 +135,7 @@ const DAMAGED: [(&[u8], u64, DamageKind); 29] = [
 
 #[test]
 fn tells_where_and_why(rt: HostRuntime) -> Result<(), Fail> {
-    for (stream, place, kind) in DAMAGED {
+    for &(stream, place, kind) in &DAMAGED {
         assert!(rt; stream.len() < 100);
         for size in 1..=stream.len() {
             let outcome = read(rt.alloc(), stream, size)?;
@@ -166,7 +166,7 @@ const UNDAMAGED: [&[u8]; 10] = [
 
 #[test]
 fn tells_no_damage_before_its_place(rt: HostRuntime) -> Result<(), Fail> {
-    for stream in UNDAMAGED {
+    for &stream in &UNDAMAGED {
         assert!(rt; stream.len() < 100);
         let mut decoder = Decoder::new(rt.alloc());
         assert_eq!(rt; decoder.feed(stream), Ok(()), "{stream:?}");
@@ -203,7 +203,7 @@ const HEADERS: [(usize, &[u8], Option<(u64, DamageKind)>); 9] = [
 #[test]
 fn holds_a_header_part_to_its_limit(rt: HostRuntime) -> Result<(), Fail> {
     let alloc = rt.alloc();
-    for (line, end, told) in HEADERS {
+    for &(line, end, told) in &HEADERS {
         let stream = long_header(alloc, line, end)?;
         assert!(rt; stream.len() < 2_048);
         let damage = told.map(|(place, kind)| Damage { place, kind });

@@ -69,7 +69,7 @@ const READ: [(&str, &str); 14] = [
 
 #[test]
 fn writes_what_it_reads(rt: HostRuntime) -> Result<(), Fail> {
-    for (body, written) in READ {
+    for &(body, written) in &READ {
         match read_message(rt.alloc(), body.as_bytes()) {
             Ok(message) => {
                 let again = write_message(rt.alloc(), &message)?;
@@ -145,7 +145,7 @@ fn code_of(alloc: Global, body: &[u8]) -> Result<i32, NoMemory> {
 
 #[test]
 fn refuses_what_is_no_message(rt: HostRuntime) -> Result<(), Fail> {
-    for (body, code) in REFUSED {
+    for &(body, code) in &REFUSED {
         assert_eq!(rt; code_of(rt.alloc(), body)?, code, "{body:?}");
     }
     assert_eq!(rt; PARSE_ERROR, -32700);
@@ -197,7 +197,7 @@ const GROWN: [((&[u8], &[u8], &[u8], &[u8]), u32, i32); 4] = [
 
 #[test]
 fn limits_ids_and_nesting(rt: HostRuntime) -> Result<(), Fail> {
-    for (parts, count, code) in GROWN {
+    for &(parts, count, code) in &GROWN {
         let body = grown(rt.alloc(), parts, count)?;
         assert_eq!(rt; code_of(rt.alloc(), body.as_slice())?, code, "{count}");
     }
@@ -275,7 +275,7 @@ fn is_first(alloc: Global, open: &OpenIds, number: u32) -> Result<bool, NoMemory
 fn keeps_open_ids_in_order(rt: HostRuntime) -> Result<(), Fail> {
     let mut open = OpenIds::new(rt.alloc())?;
     assert!(rt; open.first().is_none());
-    for (call, number, want, first) in CALLS {
+    for &(call, number, want, first) in &CALLS {
         let id = id_of(rt.alloc(), number)?;
         assert_eq!(rt; called(&mut open, call, id)?, want, "{call:?} {number}");
         assert!(rt; is_first(rt.alloc(), &open, first)?, "{call:?} {number}");

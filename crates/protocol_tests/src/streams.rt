@@ -106,7 +106,7 @@ const PUBLISHED: [(u32, &[(bool, usize)]); 3] = [
 #[test]
 fn publishes_in_pieces_what_is_not_shown(rt: HostRuntime) -> Result<(), Fail> {
     let mut shown = Shown::new(rt.alloc());
-    for (count, wanted) in PUBLISHED {
+    for &(count, wanted) in &PUBLISHED {
         let pieces = publish(rt.alloc(), &mut shown, count)?;
         assert_eq!(rt; pieces.len(), wanted.len(), "{count}");
         for (piece, (reset, length)) in pieces.iter().zip(wanted) {

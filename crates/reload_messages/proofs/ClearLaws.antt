@@ -11,7 +11,7 @@ use Rattle.bsp_records.specs.declared.diagnostics.DiagnosticRecord.{DiagnosticRe
 use Rattle.bsp_records.specs.declared.publishing.PublishDiagnosticsParams.{PublishDiagnosticsParams}
 use Rattle.reload_messages.specs.Cleared.{HasCleared, HasClearedOne}
 use Rattle.rpc_peer.specs.Said.{Said}
-use Rattle.session_build.proofs.Publications.{all_shown, apart_at, table_same}
+use Rattle.build_messages.proofs.Publications.{all_shown, apart_at, table_same}
 use Rattle.session_law.specs.Builds.{publication_said, shown_by, table_behind}
 use Rattle.session_law.specs.IsFramed.{IsFramed}
 use Rattle.session_law.specs.Reloading.{clears, clears_shown, key_of}

@@ -1,12 +1,12 @@
 ghost use Rattle.std.specs.Prelude.{◌≡◌, ◌≢◌, ◌++◌, map, OnOk};
 ghost use Rattle.std.specs.List.{AllPairs};
 ghost use Rattle.reload_messages.specs.Cleared.{HasCleared, HasClearedOne};
-ghost use Rattle.session_build.specs.Outgoing.{outgoing_said};
+ghost use Rattle.build_messages.specs.Outgoing.{outgoing_said};
 ghost use Rattle.session_law.specs.Builds.{publication_said};
 ghost use Rattle.task_stream.specs.Showing.{shows};
 
+use build_messages::Outgoing;
 use ob_text::NoMemory;
-use session_build::Outgoing;
 use std::collections::VecDeque;
 use task_stream::{Piece, Shown, TableKey};
 

@@ -13,14 +13,14 @@ ghost use Rattle.std.specs.Prelude.{◌≡◌, ◌<◌, Some, map, All, OnOk, le
 ghost use Rattle.std.specs.List.{slice_get};
 ghost use Rattle.reload_rules.specs.Dropped.{dropped};
 ghost use Rattle.reload_messages.specs.Told.{HasTold};
-ghost use Rattle.session_build.specs.Outgoing.{outgoing_said};
+ghost use Rattle.build_messages.specs.Outgoing.{outgoing_said};
 ghost use Rattle.target_graph.specs.Workspace.{pairs_of};
 ghost use Rattle.task_stream.specs.Showing.{shows};
 
 use crate::clearing::clear_all;
 use crate::telling::tell_changes;
+use build_messages::{Outgoing, keys_of};
 use ob_text::NoMemory;
-use session_build::{Outgoing, keys_of};
 use std::alloc::Global;
 use std::collections::VecDeque;
 use target_graph::Workspace;

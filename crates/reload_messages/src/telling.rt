@@ -3,7 +3,7 @@ ghost use Rattle.bsp_records.specs.Notices.{HasEventTexts};
 ghost use Rattle.bsp_records.specs.ShortAnswers.{IsShortEvent, changes_limit};
 ghost use Rattle.reload_messages.specs.Told.{HasToldChanges};
 ghost use Rattle.rpc_peer.specs.Said.{said};
-ghost use Rattle.session_build.specs.Outgoing.{outgoing_said};
+ghost use Rattle.build_messages.specs.Outgoing.{outgoing_said};
 ghost use Rattle.session_law.specs.IsFramed.{IsFramed};
 ghost use Rattle.session_law.specs.Reloading.{changes_said, event_of, kind_of};
 ghost use Rattle.target_graph.specs.Names.{is_name};
@@ -12,10 +12,10 @@ use bsp_records::{
     BuildTargetEvent, BuildTargetEventKind, BuildTargetIdentifier, DidChangeParams,
     write_did_change_params,
 };
+use build_messages::Outgoing;
 use ob_text::{Items, NoMemory, Text};
 use reload_rules::{Change, ChangedTarget};
 use rpc_peer::Message;
-use session_build::Outgoing;
 use session_reload::changes;
 use std::alloc::Global;
 use std::collections::VecDeque;

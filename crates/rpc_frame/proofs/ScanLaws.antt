@@ -21,10 +21,10 @@ use Rattle.rpc_frame.proofs.DamageLaws.{damage_behind}
 
 -- From the first reading and its marks, the bytes of the piece before the rest led to the next ones.
 -- The stream has so many bytes before the piece, and before its rest.
-pub record ReadsOn (first next : Reading) (before after : List Mark) (piece rest : List ℕ) (begun place : ℕ) : Type 0 where
+pub record ReadsOn (first next : Reading) (before after : List Mark) (piece rest : List ℕ) (begun offset : ℕ) : Type 0 where
   pub seen : List ℕ
   pub cut : piece ≡ seen ++ rest
-  pub place_is : place ≡ begun + length seen
+  pub offset_is : offset ≡ begun + length seen
   pub scanned : (from : ℕ) (bytes : List ℕ) → from + length bytes ≡ begun → Scanned from first before bytes → Scanned from next after (bytes ++ seen)
 
 pub reads_sound : (offset : ℕ) (reading : Reading) (p : List ℕ) → ((damage : Damage) → reading ≡ Broken damage → ⊥) → IsPartRead offset reading p → IsSound p
@@ -119,8 +119,8 @@ pub scanned_nil : Scanned 0 (Header 0 (record { size = None; spot = Field 0 })) 
 scanned_nil = record { part = []; offset = 0; counted = refl; marked = refl; reads = reads_start }
 
 -- A step over the next bytes.
-pub scanned_step : (from : ℕ) (reading : Reading) (step : Step) (ms : List Mark) (b t : List ℕ) (place : ℕ) → from + length b ≡ place → ((offset : ℕ) (p : List ℕ) → offset + length p ≡ place → IsPartRead offset reading p → Makes offset step (p ++ t)) → Scanned from reading ms b → Stepped from step ms (b ++ t)
-scanned_step from reading step ms b t place at makes s = record {
+pub scanned_step : (from : ℕ) (reading : Reading) (step : Step) (ms : List Mark) (b t : List ℕ) (offset : ℕ) → from + length b ≡ offset → ((start : ℕ) (p : List ℕ) → start + length p ≡ offset → IsPartRead start reading p → Makes start step (p ++ t)) → Scanned from reading ms b → Stepped from step ms (b ++ t)
+scanned_step from reading step ms b t offset at makes s = record {
   part = s.part ++ t;
   offset = s.offset;
   counted = omega (arith, s.counted, length-append s.part t, length-append b t);
@@ -169,7 +169,7 @@ first_frame from reading k ms b s =
       });
     }
 
--- the same of a list of marks whose first is read by its place
+-- the same of a list of marks whose first is read by its index
 pub first_mark : (from : ℕ) (reading : Reading) (k : Mark) (ms : List Mark) (b : List ℕ) → 0 < length ms → k ≡ get_or ms 0 k → Scanned from reading ms b → FirstFrame from reading k (drop 1 ms) b
 first_mark from reading k [] b some e s = absurd (omega arith)
 first_mark from reading k (j ∷ ms) b some e s = first_frame from reading k ms b (subst (λ t. Scanned from reading (t ∷ ms) b) (sym e) s)
@@ -189,26 +189,26 @@ pub reads_on_start : (reading : Reading) (ms : List Mark) (piece : List ℕ) (be
 reads_on_start reading ms piece begun = record {
   seen = [];
   cut = refl;
-  place_is = omega arith;
+  offset_is = omega arith;
   scanned = λ from bytes at s. subst (Scanned from reading ms) (sym (append-nil bytes)) s;
 }
 
-pub reads_on_step : (first now next : Reading) (before ms after : List Mark) (piece rest : List ℕ) (begun place : ℕ) (step : Step) (n : ℕ) → ReadsOn first now before ms piece rest begun place → n ≤ length rest
-    → ((offset : ℕ) (p : List ℕ) → offset + length p ≡ place → IsPartRead offset now p → Makes offset step (p ++ take n rest)) → ((from : ℕ) (bytes : List ℕ) → Stepped from step ms bytes → Scanned from next after bytes)
-    → ReadsOn first next before after piece (drop n rest) begun (place + n)
-reads_on_step first now next before ms after piece rest begun place step n r inside makes settles = record {
+pub reads_on_step : (first now next : Reading) (before ms after : List Mark) (piece rest : List ℕ) (begun offset : ℕ) (step : Step) (n : ℕ) → ReadsOn first now before ms piece rest begun offset → n ≤ length rest
+    → ((start : ℕ) (p : List ℕ) → start + length p ≡ offset → IsPartRead start now p → Makes start step (p ++ take n rest)) → ((from : ℕ) (bytes : List ℕ) → Stepped from step ms bytes → Scanned from next after bytes)
+    → ReadsOn first next before after piece (drop n rest) begun (offset + n)
+reads_on_step first now next before ms after piece rest begun offset step n r inside makes settles = record {
   seen = r.seen ++ take n rest;
   cut = r.cut ∙ ap (λ t. r.seen ++ t) (sym (take-append-drop n rest)) ∙ sym (append_assoc r.seen (take n rest) (drop n rest));
-  place_is = omega (arith, r.place_is, length-append r.seen (take n rest), length-take-le n rest inside);
+  offset_is = omega (arith, r.offset_is, length-append r.seen (take n rest), length-take-le n rest inside);
   scanned = λ from bytes at s.
-      let here : from + length (bytes ++ r.seen) ≡ place = omega (arith, at, r.place_is, length-append bytes r.seen) in
+      let here : from + length (bytes ++ r.seen) ≡ offset = omega (arith, at, r.offset_is, length-append bytes r.seen) in
       subst (Scanned from next after) (append_assoc bytes r.seen (take n rest))
-      (settles from ((bytes ++ r.seen) ++ take n rest) (scanned_step from now step ms (bytes ++ r.seen) (take n rest) place here makes (r.scanned from bytes at s)));
+      (settles from ((bytes ++ r.seen) ++ take n rest) (scanned_step from now step ms (bytes ++ r.seen) (take n rest) offset here makes (r.scanned from bytes at s)));
 }
 
-pub reads_on_end : (first now : Reading) (before ms : List Mark) (piece rest : List ℕ) (begun place : ℕ) → length rest ≡ 0 → ReadsOn first now before ms piece rest begun place → (from : ℕ) (bytes : List ℕ) → from + length bytes ≡ begun → Scanned from first before bytes → Scanned from now ms (bytes ++ piece)
-reads_on_end first now before ms piece [] begun place none r from bytes at s = subst (λ t. Scanned from now ms (bytes ++ t)) (sym (append-nil r.seen) ∙ sym r.cut) (r.scanned from bytes at s)
-reads_on_end first now before ms piece (c ∷ rest) begun place none r from bytes at s = absurd (omega arith)
+pub reads_on_end : (first now : Reading) (before ms : List Mark) (piece rest : List ℕ) (begun offset : ℕ) → length rest ≡ 0 → ReadsOn first now before ms piece rest begun offset → (from : ℕ) (bytes : List ℕ) → from + length bytes ≡ begun → Scanned from first before bytes → Scanned from now ms (bytes ++ piece)
+reads_on_end first now before ms piece [] begun offset none r from bytes at s = subst (λ t. Scanned from now ms (bytes ++ t)) (sym (append-nil r.seen) ∙ sym r.cut) (r.scanned from bytes at s)
+reads_on_end first now before ms piece (c ∷ rest) begun offset none r from bytes at s = absurd (omega arith)
 
 pub goes_on_trans : (ms ns ks : List Mark) → GoesOn ms ns → GoesOn ns ks → GoesOn ms ks
 goes_on_trans ms ns ks g h = record { more = g.more ++ h.more; whole = h.whole ∙ ap (λ t. t ++ h.more) g.whole ∙ append_assoc ms g.more h.more }

@@ -36,7 +36,7 @@ pub record IsInContent (header size missing : ℕ) (bytes : List ℕ) : Type 0 w
 abbrev pub Breaks : DamageKind → Head → ℕ → ℕ → Type 0
 Breaks kind head came byte = ((came < header_limit) × (spot_next head.spot head.size byte ≡ Bad kind)) ⊎ ((came ≡ header_limit) × (kind ≡ HeaderTooLong))
 
--- behind a part that stands at this place of the stream, a byte is damage
+-- behind a part that stands at this offset of the stream, a byte is damage
 pub record IsBad (offset : ℕ) (damage : Damage) (bytes : List ℕ) : Type 0 where
   pub head : Head
   pub came : ℕ
@@ -48,7 +48,7 @@ pub record IsBad (offset : ℕ) (damage : Damage) (bytes : List ℕ) : Type 0 wh
   pub place : damage.place ≡ offset + came
   pub whole : bytes ≡ front ++ (byte ∷ after)
 
--- the bytes, at this place of the stream, are a part of a frame, as the reading says
+-- the bytes, at this offset of the stream, are a part of a frame, as the reading says
 abbrev pub IsPartRead : ℕ → Reading → List ℕ → Type 0
 IsPartRead offset (Header came head) bytes = IsInHeader came head bytes
 IsPartRead offset (Content header size missing) bytes = IsInContent header size missing bytes
@@ -91,7 +91,7 @@ abbrev pub Marked : List ℕ → List Mark → List ℕ → Type 0
 Marked bytes [] rest = bytes ≡ rest
 Marked bytes (mark ∷ marks) rest = MarkThen bytes mark (λ after. Marked after marks rest)
 
--- the bytes, from this place of the stream on, are frames with these marks, and then a part of one
+-- the bytes, from this offset of the stream on, are frames with these marks, and then a part of one
 pub record Scanned (from : ℕ) (reading : Reading) (marks : List Mark) (bytes : List ℕ) : Type 0 where
   pub part : List ℕ
   pub offset : ℕ

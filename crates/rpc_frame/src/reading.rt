@@ -69,19 +69,19 @@ impl Reading {
         }
     }
 
-    /// Reads some of these bytes, which stand at this place of the stream, and tells how many: one of
+    /// Reads some of these bytes, which stand at this offset of the stream, and tells how many: one of
     /// a header part, or all of the content that have come.
-    pub fn step(self, place: u64, bytes: &[u8]) -> (Step, usize)
+    pub fn step(self, offset: u64, bytes: &[u8]) -> (Step, usize)
         requires some { 0 < length bytes.now }
         requires within { IsFitReading self }
         ensures progress { 0 < result.1 }
         ensures inside { result.1 ≤ length bytes.now }
         ensures within { IsFitStep result.0 }
-        ensures makes { (offset : ℕ) (part : List ℕ) → offset + length part ≡ place
-            → IsPartRead offset self part → Makes offset result.0 (part ++ take result.1 bytes.now) }
+        ensures makes { (start : ℕ) (part : List ℕ) → start + length part ≡ offset
+            → IsPartRead start self part → Makes start result.0 (part ++ take result.1 bytes.now) }
     {
         match self {
-            Reading::Header { came, head } => (after_header(came, head, place, bytes[0]), 1),
+            Reading::Header { came, head } => (after_header(came, head, offset, bytes[0]), 1),
             Reading::Content {
                 header,
                 size,
@@ -92,16 +92,16 @@ impl Reading {
     }
 }
 
-fn after_header(came: usize, head: Head, place: u64, byte: u8) -> Step
+fn after_header(came: usize, head: Head, offset: u64, byte: u8) -> Step
     requires limit { came ≤ header_limit }
     requires fit { IsFit head.spot }
     ensures within { IsFitStep result }
-    ensures makes { (offset : ℕ) (part : List ℕ) → offset + length part ≡ place
-        → IsPartRead offset (Reading.Header came head) part → Makes offset result (part ++ byte ∷ []) }
+    ensures makes { (start : ℕ) (part : List ℕ) → start + length part ≡ offset
+        → IsPartRead start (Reading.Header came head) part → Makes start result (part ++ byte ∷ []) }
 {
     let full = came == HEADER_LIMIT;
     if full {
-        return broken(place, DamageKind::HeaderTooLong);
+        return broken(offset, DamageKind::HeaderTooLong);
     }
     match head.next(byte) {
         Next::On(head) => Step::Inside(Reading::Header {
@@ -109,7 +109,7 @@ fn after_header(came: usize, head: Head, place: u64, byte: u8) -> Step
             head,
         }),
         Next::Closed(size) => opened(came + 1, size),
-        Next::Bad(kind) => broken(place, kind),
+        Next::Bad(kind) => broken(offset, kind),
     }
 }
 
@@ -143,8 +143,8 @@ fn after_content(header: usize, size: usize, missing: usize, ready: usize) -> (S
     ensures progress { 0 < result.1 }
     ensures inside { result.1 ≤ ready }
     ensures within { IsFitStep result.0 }
-    ensures makes { (offset : ℕ) (part taken : List ℕ) → IsPartRead offset (Reading.Content header size missing) part
-        → length taken ≡ result.1 → Makes offset result.0 (part ++ taken) }
+    ensures makes { (start : ℕ) (part taken : List ℕ) → IsPartRead start (Reading.Content header size missing) part
+        → length taken ≡ result.1 → Makes start result.0 (part ++ taken) }
 {
     if ready < missing {
         let reading = Reading::Content {

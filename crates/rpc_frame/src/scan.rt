@@ -55,12 +55,12 @@ fn scan(
     ensures goes_on { GoesOn marks.old.items marks.new.items }
 {
     let mut rest = piece;
-    let mut place = begun;
+    let mut offset = begun;
     'pieces: while !rest.is_empty() {
-        let (step, taken) = reading.step(place, rest);
+        let (step, taken) = reading.step(offset, rest);
         reading = settle(step, marks)?;
         rest = rest.split_at(taken).1;
-        place += taken as u64;
+        offset += taken as u64;
     }
     Ok(reading)
 }

@@ -8,7 +8,7 @@ ghost use Rattle.rpc_peer.specs.Returning.{Returns, HasCode};
 ghost use Rattle.rpc_peer.specs.Said.{said, said_data, id_data, answered_data, error_data, body_of, HasText, HasAnyText, HasTexts, request, notification, result as answers, failure};
 
 use crate::message::{ErrorObject, Id, Message};
-use ob_text::{Bytes, NoMemory, Text};
+use ob_text::{NoMemory, Text};
 use serde_json::{Value, json};
 use std::alloc::Global;
 
@@ -55,7 +55,7 @@ fn full_request(alloc: Global, id: &Id, method: &Text, params: &Value) -> Result
         ≡ said_data (request id.now method.now (Some (view params.now)))) }
 {
     let id = id_value(alloc, id)?;
-    let method = text(method);
+    let method = method.as_str();
     Ok(json!(in alloc; {"id": id, "jsonrpc": "2.0", "method": method, "params": params})?)
 }
 
@@ -65,7 +65,7 @@ fn plain_request(alloc: Global, id: &Id, method: &Text) -> Result<Value, NoMemor
     ensures { IfOk result (λ v. view v ≡ said_data (request id.now method.now None)) }
 {
     let id = id_value(alloc, id)?;
-    let method = text(method);
+    let method = method.as_str();
     Ok(json!(in alloc; {"id": id, "jsonrpc": "2.0", "method": method})?)
 }
 
@@ -74,7 +74,7 @@ fn full_notification(alloc: Global, method: &Text, params: &Value) -> Result<Val
     ensures { IfOk result (λ v. view v
         ≡ said_data (notification method.now (Some (view params.now)))) }
 {
-    let method = text(method);
+    let method = method.as_str();
     Ok(json!(in alloc; {"jsonrpc": "2.0", "method": method, "params": params})?)
 }
 
@@ -82,7 +82,7 @@ fn plain_notification(alloc: Global, method: &Text) -> Result<Value, NoMemory>
     requires { IsUtf8 method.now }
     ensures { IfOk result (λ v. view v ≡ said_data (notification method.now None)) }
 {
-    let method = text(method);
+    let method = method.as_str();
     Ok(json!(in alloc; {"jsonrpc": "2.0", "method": method})?)
 }
 
@@ -112,7 +112,7 @@ fn error_value(alloc: Global, error: &ErrorObject) -> Result<Value, NoMemory>
     ensures code { OnOk result (FitsSigned w64 error.now.code) }
 {
     let code = error.code;
-    let message = text(&error.message);
+    let message = error.message.as_str();
     Ok(json!(in alloc; {"code": code, "message": message})?)
 }
 
@@ -132,14 +132,6 @@ fn id_value(alloc: Global, id: &Id) -> Result<Value, NoMemory>
 {
     match id {
         Id::Number(number) => Ok(Value::from(*number)),
-        Id::Text(name) => Ok(Value::String(text(name).to_string(alloc)?)),
+        Id::Text(name) => Ok(Value::String(name.as_str().to_string(alloc)?)),
     }
-}
-
-// The characters of a text that is UTF-8.
-fn text<K>(bytes: &Bytes<K>) -> &str
-    requires { IsUtf8 bytes.now }
-    ensures { result.now ≡ bytes.now }
-{
-    std::str::from_utf8(bytes.as_slice()).unwrap()
 }

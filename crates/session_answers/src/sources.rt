@@ -41,7 +41,7 @@ pub fn sources_answer(
     write_sources_result(alloc, &SourcesResult { items })
 }
 
-/// Each number once, at its first place.
+/// Each number once, where it stands first.
 fn each_once(alloc: Global, numbers: &[u32]) -> Result<Vec<u32>, NoMemory>
     ensures { IfOk result (λ once. once.items ≡ each_once ◌==◌ numbers.now) }
 {

@@ -34,7 +34,7 @@ pub fn targets_answer(alloc: Global, workspace: &Workspace) -> Result<Value, NoM
 /// A target as a client is told of it.
 fn described(alloc: Global, workspace: &Workspace, target: &Target) -> Result<BuildTarget, NoMemory>
     requires name { is_name target.now.name ≡ true }
-    requires dependencies { All (λ place. place < length workspace.now.targets)
+    requires dependencies { All (λ index. index < length workspace.now.targets)
         target.now.dependencies }
     ensures is { IfOk result (λ told. told ≡ described workspace.now target.now) }
     ensures texts { IfOk result HasBuildTargetTexts }

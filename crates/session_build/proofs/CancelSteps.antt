@@ -51,9 +51,9 @@ module _ (at : Setting) (g : Given) (of : IsSettingOf at g) where
 
 -- the job is of a check that started, behind so many others, and hasn't finished
 pub record IsLeft (g : Given) (s : Stage) (before : ℕ) (rest : List ℕ) (job : Job) : Type 0 where
-  pub place : ℕ
-  pub there : slice_get rest place ≡ Some job.pair
-  pub number_is : job.number ≡ suc (before + place)
+  pub index : ℕ
+  pub there : slice_get rest index ≡ Some job.pair
+  pub number_is : job.number ≡ suc (before + index)
   pub unfinished : IsUnfinished g s job.pair job.target
 
 -- a job of this pair is among them
@@ -76,14 +76,14 @@ rising_first a js b rising there =
 module _ (g : Given) (s : Stage) where
   -- the first of those checks isn't of this job
   left_later : (before p : ℕ) (rest : List ℕ) (job : Job) → job.pair ≢ p → IsLeft g s before (p ∷ rest) job → IsLeft g s (suc before) rest job
-  left_later before p rest job differ left = by left.place left.there left.number_is
+  left_later before p rest job differ left = by left.index left.there left.number_is
     where
       by : (k : ℕ) → slice_get (p ∷ rest) k ≡ Some job.pair → job.number ≡ suc (before + k) → IsLeft g s (suc before) rest job
       by zero at is = absurd (differ (same_Some job.pair p (sym at)))
-      by (suc k) at is = record { place = k; there = at; number_is = omega (arith, is); unfinished = left.unfinished }
+      by (suc k) at is = record { index = k; there = at; number_is = omega (arith, is); unfinished = left.unfinished }
 
-  first_place : (before p : ℕ) (rest : List ℕ) (job : Job) → AllPairs ◌≢◌ (p ∷ rest) → job.pair ≡ p → IsLeft g s before (p ∷ rest) job → job.number ≡ suc before
-  first_place before p rest job distinct same left = by left.place left.there left.number_is
+  first_index : (before p : ℕ) (rest : List ℕ) (job : Job) → AllPairs ◌≢◌ (p ∷ rest) → job.pair ≡ p → IsLeft g s before (p ∷ rest) job → job.number ≡ suc before
+  first_index before p rest job distinct same left = by left.index left.there left.number_is
     where
       by : (k : ℕ) → slice_get (p ∷ rest) k ≡ Some job.pair → job.number ≡ suc (before + k) → job.number ≡ suc before
       by zero at is = omega (arith, is)
@@ -110,7 +110,7 @@ module _ (g : Given) (s : Stage) where
       by : (first ≡ has.job) ⊎ Contains jobs has.job → first.pair ≡ p
       by (inl same) = ap (λ (j : Job). j.pair) same ∙ has.is
       by (inr later) =
-          let number = first_place before p rest has.job left.distinct has.is (All-contains (IsLeft g s before (p ∷ rest)) (first ∷ jobs) has.job left.each has.there) in
+          let number = first_index before p rest has.job left.distinct has.is (All-contains (IsLeft g s before (p ∷ rest)) (first ∷ jobs) has.job left.each has.there) in
           let low = least before (p ∷ rest) first (All-head (IsLeft g s before (p ∷ rest)) first jobs left.each) in
           let above = rising_first first jobs has.job left.rising later in
           absurd (omega (arith, number, low, above))
@@ -122,7 +122,7 @@ module _ (g : Given) (s : Stage) where
         let own = All-tail (IsLeft g s before (p ∷ rest)) first jobs left.each k d h in
         left_later before p rest job
         (λ again.
-        (let number = first_place before p rest job left.distinct again own in
+        (let number = first_index before p rest job left.distinct again own in
         let above = rising_first first jobs job left.rising (Contains-get_or jobs k d h) in
         omega (arith, first_number, number, above)))
         own);
@@ -132,7 +132,7 @@ module _ (g : Given) (s : Stage) where
   }
     where
       first_number : first.number ≡ suc before
-      first_number = first_place before p rest first left.distinct same (All-head (IsLeft g s before (p ∷ rest)) first jobs left.each)
+      first_number = first_index before p rest first left.distinct same (All-head (IsLeft g s before (p ∷ rest)) first jobs left.each)
 
       among : (q : ℕ) → Contains rest q → (job : Job) → job.pair ≡ q → (first ≡ job) ⊎ Contains jobs job → HasJob jobs q
       among q there job is (inl it) =
@@ -157,7 +157,7 @@ module _ (g : Given) (s : Stage) where
       by next (first ∷ jobs) left (inr has) =
           let same : first.pair ≡ p = job_is before p rest first jobs left has in
           let own = All-head (IsLeft g s before (p ∷ rest)) first jobs left.each in
-          let number : first.number ≡ suc before = first_place before p rest first left.distinct same own in
+          let number : first.number ≡ suc before = first_index before p rest first left.distinct same own in
           subst
           (λ n. ChecksCancelled g s before (p ∷ rest)
           (check_finishes g.active.number n first.target statuses.Cancelled

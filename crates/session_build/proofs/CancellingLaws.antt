@@ -31,7 +31,8 @@ use Rattle.session_build.specs.declared.going.Job.{Job}
 use Rattle.session_build.specs.declared.going.Made.{Made}
 use Rattle.session_build.specs.declared.kept.Kept.{Kept}
 use Rattle.session_build.specs.declared.setting.Setting.{Setting}
-use Rattle.session_build.proofs.DocumentLaws.{among_by, apart_by, document_in, key_at}
+use Rattle.build_messages.proofs.DocumentLaws.{key_at, among_by, apart_by}
+use Rattle.session_build.proofs.DocumentLaws.{document_in}
 use Rattle.session_build.proofs.EndedLaws.{made_checked, pair_by_key}
 use Rattle.session_build.proofs.CancelSteps.{AreLeft, HasJob, cancels_are, cancels_from, course_checks}
 use Rattle.session_build.proofs.LateLaws.{late_cancelled}
@@ -45,7 +46,7 @@ module _ (g : Given) (at : Setting) (going : Going) (told : List Said) (keys : L
   unfinished_of : (job : Job) → IsRunning g is.stage (running_of job) → IsUnfinished g is.stage job.pair job.target
   unfinished_of job runs = record {
     document = runs.document;
-    there = contains_at g.documents job.place runs.document runs.there;
+    there = contains_at g.documents job.document_index runs.document runs.there;
     pair_is = runs.pair_is;
     unsettled = λ settled. runs.runs.unfinished (subst (Contains (pairs_in is.stage.settled)) (sym runs.pair_is) settled);
     of_target = runs.of_target;
@@ -72,7 +73,7 @@ module _ (g : Given) (at : Setting) (going : Going) (told : List Said) (keys : L
         (let job : Job = get_or going.jobs.items k d in
         let runs = running_job job (Contains-get_or going.jobs.items k d h) in
         record {
-          place = runs.runs.before;
+          index = runs.runs.before;
           there = subst (λ q. slice_get is.stage.begun runs.runs.before ≡ Some q) runs.pair_is runs.runs.there;
           number_is = runs.runs.number_is ∙ omega arith;
           unfinished = unfinished_of job runs;

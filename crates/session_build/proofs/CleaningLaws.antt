@@ -18,7 +18,8 @@ use Rattle.session_law.specs.Reloading as reloading
 use Rattle.session_build.specs.Cleaning.{AreOthers, HasCleaned, HasReloaded, KeepsOnly, has_key, is_key_at, is_key_in, is_of}
 use Rattle.session_build.specs.Remembering.{HasDocument, table_key}
 use Rattle.session_build.specs.declared.kept.Kept.{Kept}
-use Rattle.session_build.proofs.DocumentLaws.{key_at, one_index, table_key_here}
+use Rattle.build_messages.proofs.DocumentLaws.{key_at}
+use Rattle.session_build.proofs.DocumentLaws.{one_index, table_key_here}
 use Rattle.session_build.proofs.FilterLaws.{IsKeyAmong, filtered, filters, key_finds, key_found}
 use Rattle.session_build.proofs.ReloadLaws.{HasPair, Parts, remembers_still}
 use Rattle.target_graph.specs.Address.{target_address}
@@ -137,14 +138,14 @@ module_pair n (one ∷ modules) path found = by (bytes_eq path one) refl (module
         contains_later (record { target = n; path = one }) (pairs_at n modules) (record { target = n; path = path })
         (later (ap (λ b. b || list_any (bytes_eq path) modules) (sym is) ∙ found))
 
--- some target, the first of which has this index, has the name and lists the path
+-- some target, behind so many others, has the name and lists the path, where the first target has this index
 record IsListed (n : ℕ) (targets : List Target) (name path : List ℕ) : Type 0 where
-  place : ℕ
+  before : ℕ
   target : Target
-  at : slice_get targets place ≡ Some target
+  at : slice_get targets before ≡ Some target
   named : target.name ≡ name
   index : ℕ
-  index_is : index ≡ n + place
+  index_is : index ≡ n + before
   there : Contains (pairs_from n targets) (record { target = index; path = path })
 
 listed_in : (n : ℕ) (targets : List Target) (name path : List ℕ) → has_pair targets name path ≡ true → IsListed n targets name path
@@ -157,7 +158,7 @@ listed_in n (target ∷ targets) name path found = by (bytes_eq name target.name
         let named = both_left (bytes_eq name target.name) (list_any (bytes_eq path) target.modules) is in
         let lists = both_right (bytes_eq name target.name) (list_any (bytes_eq path) target.modules) is in
         record {
-          place = 0;
+          before = 0;
           target = target;
           at = refl;
           named = sym ((bytes_eq-Decides name target.name).0 named);
@@ -168,7 +169,7 @@ listed_in n (target ∷ targets) name path found = by (bytes_eq name target.name
     by false is later =
         let rest = later (ap (λ b. b || has_pair targets name path) (sym is) ∙ found) in
         record {
-          place = suc rest.place;
+          before = suc rest.before;
           target = rest.target;
           at = rest.at;
           named = rest.named;
@@ -187,15 +188,15 @@ has_listed space key found =
     let is = listed_in 0 space.targets key.target key.path found in
     let pair : Pair = record { target = is.index; path = key.path } in
     let there : Contains (pairs_of space.targets) pair = all_pairs space.targets pair is.there in
-    let place : is.index ≡ is.place = omega (arith, is.index_is) in
-    let within = slice_get_within space.targets is.place is.target is.at in
-    let named : is.target.name ≡ name_at space.targets is.place =
-    name_here space.targets is.place is.target within (sym (get_or_from_slice_get space.targets is.place is.target is.target is.at)) in
+    let same : is.index ≡ is.before = omega (arith, is.index_is) in
+    let within = slice_get_within space.targets is.before is.target is.at in
+    let named : is.target.name ≡ name_at space.targets is.before =
+    name_here space.targets is.before is.target within (sym (get_or_from_slice_get space.targets is.before is.target is.target is.at)) in
     record {
       index = there.0;
       pair = pair;
       there = place_of (pairs_of space.targets) pair there;
-      is = parts_same (key_of space.targets pair) key (ap (name_at space.targets) place ∙ (sym named ∙ is.named)) refl;
+      is = parts_same (key_of space.targets pair) key (ap (name_at space.targets) same ∙ (sym named ∙ is.named)) refl;
     }
 
 -- ---- another workspace

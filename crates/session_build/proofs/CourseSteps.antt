@@ -20,10 +20,10 @@ use Rattle.session_law.specs.Tasks.{check_starts, check_finishes, checking, star
 use Rattle.session_law.specs.declared.BuildDocument.{BuildDocument}
 use Rattle.session_law.proofs.StageLaws.{pairs_push}
 use Rattle.session_law.proofs.TaskLaws.{TellsOfTask, finish_tells, start_tells}
-use Rattle.session_build.specs.Publishing.{IsPublishedOne}
+use Rattle.build_messages.specs.Publishing.{IsPublishedOne}
 use Rattle.session_build.specs.Stages.{IsOnCourse}
 use Rattle.session_build.proofs.Members.{contains_map, one_of_image}
-use Rattle.session_build.proofs.Publications.{IsApart, apart_at, publishes_same, shows_on, table_same}
+use Rattle.build_messages.proofs.Publications.{IsApart, apart_at, publishes_same, shows_on, table_same}
 use Rattle.task_stream.specs.Showing.{is_at}
 
 abbrev IsTold : Said → Type 0

@@ -30,7 +30,8 @@ use Rattle.session_build.specs.declared.going.Job.{Job}
 use Rattle.session_build.specs.declared.going.Made.{Made}
 use Rattle.session_build.specs.declared.setting.Setting.{Setting}
 use Rattle.session_build.specs.declared.tally.Tally.{Tally}
-use Rattle.session_build.proofs.DocumentLaws.{document_in, key_at, one_index}
+use Rattle.build_messages.proofs.DocumentLaws.{key_at}
+use Rattle.session_build.proofs.DocumentLaws.{document_in, one_index}
 use Rattle.session_build.proofs.EndingLaws.{CountsIn, IsTold, documents_in, ends_same, ends_told, failed_same, zipped}
 use Rattle.session_build.proofs.Members.{one_of_image}
 use Rattle.target_graph.specs.Workspace.{Space, pairs_of}

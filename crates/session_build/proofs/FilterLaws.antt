@@ -8,7 +8,7 @@ use Rattle.check_cache.specs.declared.pair.PairKey.{PairKey}
 use Rattle.check_cache.proofs.FilterLaws.{one_pair}
 use Rattle.session_law.proofs.ListLaws.{contains_cases, contains_first, contains_later, contains_none}
 use Rattle.session_build.specs.Cleaning.{has_key, is_key_at}
-use Rattle.session_build.proofs.DocumentLaws.{or_true}
+use Rattle.build_messages.proofs.DocumentLaws.{or_true}
 use Rattle.session_build.proofs.StoringLaws.{same_key}
 use Rattle.target_graph.specs.Workspace.{pairs_of}
 use Rattle.target_graph.specs.declared.target.Pair.{Pair}

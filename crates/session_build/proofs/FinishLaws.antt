@@ -23,7 +23,7 @@ use Rattle.session_law.proofs.HistoryLaws.{checked_still}
 use Rattle.session_law.proofs.ListLaws.{contains_at}
 use Rattle.session_law.proofs.StageLaws.{stage_sound}
 use Rattle.session_build.specs.Going.{HasToldStart, IsGoing, IsGoingWith, SettlesBy, all_running, pairs_made, running_of, told_by}
-use Rattle.session_build.specs.Publishing.{IsPublishedOne}
+use Rattle.build_messages.specs.Publishing.{IsPublishedOne}
 use Rattle.session_build.specs.Setting.{IsSetting}
 use Rattle.session_build.specs.Stages.{AreBegun, IsOnCourse, IsRunning}
 use Rattle.session_build.specs.Tallies.{AreTallied, IsCount}
@@ -74,7 +74,7 @@ module _ (at : Setting) (is : IsSetting at) (g : Given) (old mid : Going) (job :
   targets_are = ap (λ (x : Space). x.targets) own_space
 
   there : Contains g.documents document
-  there = document_there at is g old (job ∷ old.jobs.items) told keys table going settles.place job.pair settles.there
+  there = document_there at is g old (job ∷ old.jobs.items) told keys table going settles.index job.pair settles.there
 
   first : IsRunning g going.stage (running_of job)
   first = All-head (IsRunning g going.stage) (running_of job) (all_running old.jobs.items) going.begun.each
@@ -83,7 +83,7 @@ module _ (at : Setting) (is : IsSetting at) (g : Given) (old mid : Going) (job :
   same_document =
       one_of_image (λ (d : BuildDocument). d.pair) g.documents first.document document
       (subst (λ (ds : List BuildDocument). AllPairs ◌≢◌ (map (λ (d : BuildDocument). d.pair) ds)) (sym going.of_setting.documents) (pairs_distinct at is))
-      (contains_at g.documents job.place first.document first.there) there first.pair_is
+      (contains_at g.documents job.document_index first.document first.there) there first.pair_is
 
   runs : Runs going.stage document job.number
   runs = subst (λ (d : BuildDocument). Runs going.stage d job.number) same_document first.runs
@@ -109,8 +109,7 @@ module _ (at : Setting) (is : IsSetting at) (g : Given) (old mid : Going) (job :
       (append_assoc told (course_finish ∷ []) settles.published.own ∙ ap (λ (m : Said). told ++ m ∷ settles.published.own) (sym finish_is))
       (on_checked g going.stage told table finding job.number job.target shown ((told ++ course_finish ∷ []) ++ settles.published.own) settles.failed
       (keys_distinct at is g old (job ∷ old.jobs.items) told keys table going) going.on
-      (none_here g going.stage (world_of old.checks) (modules_of old.checks) (taken_of old.checks) (settled_of old.checks) going.agrees
-      (λ p ready. none p (record { among = ready.among; is_new = ready.is_new; clear = ready.clear })))
+      (none_here g going.stage (world_of old.checks) (modules_of old.checks) (taken_of old.checks) (settled_of old.checks) going.agrees none)
       runs task there
       (kept_list keys (world_in g.active) job.pair fact kept_in is_fact (once_in at is (world_in g.active) targets_are))
       (apart_settled g.documents going.stage.settled document (keys_distinct at is g old (job ∷ old.jobs.items) told keys table going) (stage_sound going.on.course).documents there runs.unfinished)
@@ -167,11 +166,11 @@ module _ (at : Setting) (is : IsSetting at) (g : Given) (old mid : Going) (job :
         (kept_on keys later settles.more (world_of mid.checks) job.pair fact (subst (λ w. IsKept keys w job.pair fact) (sym settles.world_same) kept_here)));
     tallied =
         subst (AreTallied g.documents (with_checked going.stage finding)) (sym settles.tallies)
-        (tallied_settled g.documents going.stage old.tallies.items going.tallied going.stage.taken finding settles.place settles.tally
-        (omega (arith, sized, slice_get_within at.documents settles.place document settles.there))
-        (subst (λ (ds : List BuildDocument). slice_get ds settles.place ≡ Some document) (sym going.of_setting.documents) settles.there)
-        (subst (λ (ds : List BuildDocument). (k : ℕ) (d : BuildDocument) → slice_get ds k ≡ Some d → d.pair ≡ job.pair → k ≡ settles.place) (sym going.of_setting.documents)
-        (one_document at is settles.place document settles.there))
+        (tallied_settled g.documents going.stage old.tallies.items going.tallied going.stage.taken finding settles.index settles.tally
+        (omega (arith, sized, slice_get_within at.documents settles.index document settles.there))
+        (subst (λ (ds : List BuildDocument). slice_get ds settles.index ≡ Some document) (sym going.of_setting.documents) settles.there)
+        (subst (λ (ds : List BuildDocument). (k : ℕ) (d : BuildDocument) → slice_get ds k ≡ Some d → d.pair ≡ job.pair → k ≡ settles.index) (sym going.of_setting.documents)
+        (one_document at is settles.index document settles.there))
         runs.unfinished
         (subst (λ b. IsCount b fact.checked.list.items settles.tally) (sym (begun_has going.stage job.pair (contains_at going.stage.begun runs.before job.pair runs.there))) settles.counted));
     started =

@@ -7,7 +7,8 @@ use Rattle.std.specs.List.{Contains}
 use Rattle.std.proofs.lemmas.List.{append-nil}
 use Rattle.std.proofs.lemmas.List.Elements.{All-append, All-cons, All-contains, All-nil}
 use Rattle.bsp_records.specs.Table.{Table}
-use Rattle.build_checks.specs.Kept.{AreApart, AreNumbered, IsKept}
+use Rattle.build_checks.proofs.KeptLaws.{AreApart}
+use Rattle.build_checks.specs.Kept.{AreNumbered, IsKept}
 use Rattle.build_checks.specs.Looked.{IsFound, IsLacked}
 use Rattle.build_checks.specs.Numbers.{AreNumbersOf}
 use Rattle.build_checks.specs.Stand.{CanBeTaken, modules_of, settled_of, taken_of, world_of}
@@ -28,9 +29,9 @@ use Rattle.session_law.specs.Verdicts.{IsBare}
 use Rattle.session_law.specs.declared.BuildDocument.{BuildDocument}
 use Rattle.session_build.specs.Building.{IsNotice}
 use Rattle.session_build.specs.Going.{Begins, Goes, GoesBy, GoesOnBy, IsGoing, IsGoingWith, SettlesBy, TakesOut}
-use Rattle.session_build.specs.Publishing.{IsPublishedOne}
+use Rattle.build_messages.specs.Publishing.{IsPublishedOne}
 use Rattle.session_build.specs.Setting.{IsSetting}
-use Rattle.session_build.specs.Telling.{Tells}
+use Rattle.session_build.specs.Telling.{TellsBehind}
 use Rattle.session_build.specs.declared.going.Going.{Going}
 use Rattle.session_build.specs.declared.going.Job.{Job}
 use Rattle.session_build.specs.declared.going.Made.{Made}
@@ -46,7 +47,7 @@ use Rattle.session_build.proofs.TellLaws.{tells_none, tells_on}
 use Rattle.worker_pool.specs.Jobs.{CheckTree}
 
 pub published_tells : (old new : Table) (it : BuildDocument) (origin : Option (List ℕ)) (list : List Diagnostic) (before after : List Said) (failed : Bool)
-    → (one : IsPublishedOne old new it origin list before after failed) → Tells one.own before after
+    → (one : IsPublishedOne old new it origin list before after failed) → TellsBehind one.own before after
 published_tells old new it origin list before after failed one = record {
   are = one.messages;
   framed = one.framed;
@@ -54,7 +55,7 @@ published_tells old new it origin list before after failed one = record {
 }
 
 -- one message alone
-pub tells_one : (m : Said) (before after : List Said) → after ≡ before ++ m ∷ [] → IsFramed m → IsNotice m → Tells (m ∷ []) before after
+pub tells_one : (m : Said) (before after : List Said) → after ≡ before ++ m ∷ [] → IsFramed m → IsNotice m → TellsBehind (m ∷ []) before after
 tells_one m before after is framed notice =
     record { are = is; framed = All-cons IsFramed m [] framed (All-nil IsFramed); notices = All-cons IsNotice m [] notice (All-nil IsNotice) }
 

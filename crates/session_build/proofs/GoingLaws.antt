@@ -22,16 +22,16 @@ use Rattle.session_law.proofs.ListLaws.{contains_at, contains_map, one_place}
 use Rattle.session_law.proofs.StageLaws.{stage_sound}
 use Rattle.session_build.specs.Going.{HasToldStart, IsGoing, IsGoingWith, TakesOut, all_running, pairs_made, running_of}
 use Rattle.session_build.specs.Setting.{IsNumberOf, IsSetting, IsSettingOf}
-use Rattle.session_build.specs.Stages.{Agrees, AreBegun, IsFirstIn, Running, SameMembers}
+use Rattle.session_build.specs.Stages.{Agrees, AreBegun, Running, SameMembers}
 use Rattle.session_build.specs.declared.going.Going.{Going}
 use Rattle.session_build.specs.declared.going.Job.{Job}
 use Rattle.session_build.specs.declared.setting.Setting.{Setting}
 use Rattle.session_build.proofs.CourseSteps.{apart_settled}
-use Rattle.session_build.proofs.DocumentLaws.{distinct_documents}
-use Rattle.session_build.proofs.Publications as published
+use Rattle.build_messages.proofs.DocumentLaws.{distinct_documents}
+use Rattle.build_messages.proofs.Publications as published
 use Rattle.session_build.proofs.SettingLaws.{pair_of}
 use Rattle.session_build.proofs.Moved.{all_by, map_around, moved_back}
-use Rattle.session_build.proofs.StageLaws.{begun_moved, next_here}
+use Rattle.session_build.proofs.StageLaws.{IsFirstIn, begun_moved, next_here}
 use Rattle.target_graph.specs.Faults.{IsRepeat}
 use Rattle.target_graph.specs.Workspace.{Space, id_of, pairs_of}
 use Rattle.target_graph.specs.declared.target.Target.{Target}
@@ -40,10 +40,7 @@ use Rattle.target_graph.specs.declared.target.Pair.{Pair}
 -- ---- what is read of the checks
 
 first_in : (c : Checks) (p : ℕ) → stand.IsNext c p → IsFirstIn (world_of c) (modules_of c) (taken_of c) (settled_of c) p
-first_in c p next = record {
-  ready = record { among = next.ready.among; is_new = next.ready.is_new; clear = next.ready.clear };
-  least = λ q ready. next.least q (record { among = ready.among; is_new = ready.is_new; clear = ready.clear });
-}
+first_in c p next = record { ready = next.ready; least = next.least }
 
 pub agrees_same : (g : Given) (s : Stage) (w w' : World) (m m' t t' e e' : List ℕ) → w' ≡ w → m' ≡ m → t' ≡ t → e' ≡ e → Agrees g s w m t e → Agrees g s w' m' t' e'
 agrees_same g s w w' m m' t t' e e' world modules taken settled agrees = record {
@@ -64,12 +61,12 @@ module _ (at : Setting) (is : IsSetting at) where
   pub pairs_distinct : AllPairs ◌≢◌ (map (λ (d : BuildDocument). d.pair) at.documents)
   pairs_distinct = subst (λ ps. AllPairs ◌≢◌ ps) is.pairs (λ i j d h k same. (let less = is.rising i j d h k in omega (arith, less, same)))
 
-  pub one_document : (place : ℕ) (document : BuildDocument) → slice_get at.documents place ≡ Some document
-      → (k : ℕ) (d : BuildDocument) → slice_get at.documents k ≡ Some d → d.pair ≡ document.pair → k ≡ place
-  one_document place document there k d here same =
-      one_place (map (λ (x : BuildDocument). x.pair) at.documents) document.pair k place pairs_distinct
+  pub one_document : (index : ℕ) (document : BuildDocument) → slice_get at.documents index ≡ Some document
+      → (k : ℕ) (d : BuildDocument) → slice_get at.documents k ≡ Some d → d.pair ≡ document.pair → k ≡ index
+  one_document index document there k d here same =
+      one_place (map (λ (x : BuildDocument). x.pair) at.documents) document.pair k index pairs_distinct
       (slice_get-map (λ (x : BuildDocument). x.pair) at.documents k ∙ (ap (option_map (λ (x : BuildDocument). x.pair)) here ∙ ap (λ p. Some p) same))
-      (slice_get-map (λ (x : BuildDocument). x.pair) at.documents place ∙ ap (option_map (λ (x : BuildDocument). x.pair)) there)
+      (slice_get-map (λ (x : BuildDocument). x.pair) at.documents index ∙ ap (option_map (λ (x : BuildDocument). x.pair)) there)
 
   pub once_in : (v : World) → v.targets ≡ at.workspace.value.targets → IsApart v
   once_in v same = subst (λ (ts : List Target). (t q : ℕ) → ¬ (IsRepeat ts t q)) (sym same) is.once
@@ -101,24 +98,24 @@ module _ (at : Setting) (is : IsSetting at) (g : Given) (old : Going) (jobs : Li
   pub world_targets : (world_in g.active).targets ≡ at.workspace.value.targets
   world_targets = ap (λ (x : Space). x.targets) space_is
 
-  pub document_there : (place pair : ℕ) → slice_get at.documents place ≡ Some (build_document at.workspace.value pair) → Contains g.documents (build_document at.workspace.value pair)
-  document_there place pair here =
+  pub document_there : (index pair : ℕ) → slice_get at.documents index ≡ Some (build_document at.workspace.value pair) → Contains g.documents (build_document at.workspace.value pair)
+  document_there index pair here =
       subst (λ (ds : List BuildDocument). Contains ds (build_document at.workspace.value pair)) (sym going.of_setting.documents)
-      (contains_at at.documents place (build_document at.workspace.value pair) here)
+      (contains_at at.documents index (build_document at.workspace.value pair) here)
 
   pub keys_distinct : AllPairs ◌≢◌ (map (λ (d : BuildDocument). d.key) g.documents)
   keys_distinct = subst (λ (ds : List BuildDocument). AllPairs ◌≢◌ (map (λ (d : BuildDocument). d.key) ds)) (sym going.of_setting.documents) (documents_distinct at is)
 
-  pub taken_up : (place pair : ℕ) → slice_get at.documents place ≡ Some (build_document at.workspace.value pair) → stand.IsNext old.checks pair → IsTakenUp g at going.stage pair
-  taken_up place pair here first =
+  pub taken_up : (index pair : ℕ) → slice_get at.documents index ≡ Some (build_document at.workspace.value pair) → stand.IsNext old.checks pair → IsTakenUp g at going.stage pair
+  taken_up index pair here first =
       let s = going.stage in
       let document = build_document at.workspace.value pair in
-      let there = document_there place pair here in
+      let there = document_there index pair here in
       let next : IsNext g s document =
       next_here g s (world_of old.checks) (modules_of old.checks) (taken_of old.checks) (settled_of old.checks) going.agrees document there (first_in old.checks pair first) in
       let sound = stage_sound going.on.course in
       let unsettled : ¬ (Contains (pairs_in s.settled) pair) = (λ c. next.ready.is_new (sound.settled_taken pair c)) in
-      let own = pair_of at is pair (contains_map (λ (d : BuildDocument). d.pair) at.documents document (contains_at at.documents place document here)) in
+      let own = pair_of at is pair (contains_map (λ (d : BuildDocument). d.pair) at.documents document (contains_at at.documents index document here)) in
       record {
         next = next;
         unbegun = λ c. next.ready.is_new (sound.begun_taken pair c);

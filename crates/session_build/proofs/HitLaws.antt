@@ -6,12 +6,12 @@ use Rattle.std.specs.List.{All, slice_get}
 use Rattle.std.proofs.lemmas.List.Elements.{Contains-append_left}
 use Rattle.std.proofs.lemmas.Option.{slice_get_within}
 use Rattle.bsp_records.specs.Table.{Table}
-use Rattle.build_checks.specs.Kept.{AreApart, AreNumbered, IsKept}
+use Rattle.build_checks.specs.Kept.{AreNumbered, IsKept}
 use Rattle.build_checks.specs.Looked.{IsFound}
 use Rattle.build_checks.specs.Numbers.{AreNumbersOf}
 use Rattle.build_checks.specs.Stand.{modules_of, settled_of, taken_of, world_of}
 use Rattle.build_checks.specs.declared.checks.Checks.{Checks}
-use Rattle.build_checks.proofs.KeptLaws.{kept_list, kept_on, kept_view, numbered_on}
+use Rattle.build_checks.proofs.KeptLaws.{AreApart, kept_list, kept_on, kept_view, numbered_on}
 use Rattle.build_rules.specs.World.{World}
 use Rattle.check_cache.specs.Facts.{FactTree, IsFact}
 use Rattle.check_cache.specs.Places.{Chosen}
@@ -27,7 +27,7 @@ use Rattle.session_law.specs.History.{HasChecked, world_in}
 use Rattle.session_law.specs.declared.BuildDocument.{BuildDocument}
 use Rattle.session_law.proofs.HistoryLaws.{checked_still}
 use Rattle.session_build.specs.Going.{HasToldStart, IsGoing, SettlesBy, all_running, pairs_made, told_by}
-use Rattle.session_build.specs.Publishing.{IsPublishedOne}
+use Rattle.build_messages.specs.Publishing.{IsPublishedOne}
 use Rattle.session_build.specs.Remembering.{IsOfSome, RemembersChecks}
 use Rattle.session_build.specs.Setting.{IsSetting}
 use Rattle.session_build.specs.Stages.{AreBegun, IsOnCourse}
@@ -60,7 +60,7 @@ module _ (at : Setting) (is : IsSetting at) (cache : Cache) (g : Given) (old new
   world_here = came.world_same ∙ going.agrees.world_is
 
   up : IsTakenUp g at going.stage pair
-  up = taken_up at is g old old.jobs.items told keys table going settles.place pair settles.there came.next
+  up = taken_up at is g old old.jobs.items told keys table going settles.index pair settles.there came.next
 
   numbered_here : AreNumbered keys (world_in g.active) pair imports
   numbered_here = subst (λ w. AreNumbered keys w pair imports) world_here (numbered keys (came.numbers keys going.numbers))
@@ -134,11 +134,11 @@ module _ (at : Setting) (is : IsSetting at) (cache : Cache) (g : Given) (old new
         kept_on keys later settles.more (world_of new.checks) it.pair it.fact (subst (λ w. IsKept keys w it.pair it.fact) (sym world_same) (going.made k d h))));
     tallied =
         subst (AreTallied g.documents (with_known going.stage finding)) (sym settles.tallies)
-        (tallied_settled g.documents going.stage old.tallies.items going.tallied (going.stage.taken ++ pair ∷ []) finding settles.place settles.tally
-        (omega (arith, sized, slice_get_within at.documents settles.place document settles.there))
-        (subst (λ (ds : List BuildDocument). slice_get ds settles.place ≡ Some document) (sym going.of_setting.documents) settles.there)
-        (subst (λ (ds : List BuildDocument). (k : ℕ) (d : BuildDocument) → slice_get ds k ≡ Some d → d.pair ≡ pair → k ≡ settles.place) (sym going.of_setting.documents)
-        (one_document at is settles.place document settles.there))
+        (tallied_settled g.documents going.stage old.tallies.items going.tallied (going.stage.taken ++ pair ∷ []) finding settles.index settles.tally
+        (omega (arith, sized, slice_get_within at.documents settles.index document settles.there))
+        (subst (λ (ds : List BuildDocument). slice_get ds settles.index ≡ Some document) (sym going.of_setting.documents) settles.there)
+        (subst (λ (ds : List BuildDocument). (k : ℕ) (d : BuildDocument) → slice_get ds k ≡ Some d → d.pair ≡ pair → k ≡ settles.index) (sym going.of_setting.documents)
+        (one_document at is settles.index document settles.there))
         up.unsettled
         (subst (λ b. IsCount b fact.checked.list.items settles.tally) (sym (begun_not going.stage pair up.unbegun)) settles.counted));
     started =

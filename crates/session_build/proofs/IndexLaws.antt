@@ -11,7 +11,8 @@ use Rattle.check_cache.proofs.FilterLaws.{one_pair}
 use Rattle.indexmap.specs.IndexSet.{insert_key}
 use Rattle.session_law.specs.Reloading as reloading
 use Rattle.session_build.specs.Cleaning.{AddsKey, has_key, is_key_at}
-use Rattle.session_build.proofs.DocumentLaws.{key_at, or_true, table_key_here}
+use Rattle.build_messages.proofs.DocumentLaws.{key_at, or_true}
+use Rattle.session_build.proofs.DocumentLaws.{table_key_here}
 use Rattle.target_graph.specs.Workspace.{Space, pairs_of}
 use Rattle.target_graph.specs.declared.target.Pair.{Pair}
 use Rattle.target_graph.specs.declared.target.Target.{Target}
@@ -72,19 +73,3 @@ keys_more targets indices i old new h was adds q =
     ∙ (ap (λ b. b || has_key targets q (at index)) (was q)
     ∙ sym (ap (list_any (has_key targets q)) more
     ∙ (list_any-append (has_key targets q) (map at (take i indices)) (at index ∷ []) ∙ ap (λ b. is_key_at targets (take i indices) q || b) (or_false (has_key targets q (at index))))))
-
--- ---- the keys of documents
-
--- the documents at these indices have the keys of these pairs
-pub keys_are : (space : Space) (indices : List ℕ) (pairs : List Pair) → map (slice_get (pairs_of space.targets)) indices ≡ map Some pairs
-    → map (key_at space) indices ≡ map (reloading.key_of space) pairs
-keys_are space [] [] are = refl
-keys_are space [] (pair ∷ pairs) are = absurd cc
-keys_are space (i ∷ indices) [] are = absurd cc
-keys_are space (i ∷ indices) (pair ∷ pairs) are =
-    let here : slice_get (pairs_of space.targets) i ≡ Some pair = cc in
-    let rest : map (slice_get (pairs_of space.targets)) indices ≡ map Some pairs = cc in
-    both (key_at space i) (reloading.key_of space pair) (table_key_here space i pair here) (keys_are space indices pairs rest)
-  where
-    both : (a b : TableKey) → a ≡ b → {xs ys : List TableKey} → xs ≡ ys → a ∷ xs ≡ b ∷ ys
-    both a b first {xs} {ys} later = ap (λ k. k ∷ xs) first ∙ ap (λ ks. b ∷ ks) later

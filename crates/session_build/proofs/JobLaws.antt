@@ -11,7 +11,7 @@ use Rattle.std.proofs.lemmas.Option.{get_or_from_slice_get, slice_get-get_or}
 use Rattle.build_checks.specs.Stand.{left_of}
 use Rattle.build_checks.specs.declared.checks.Checks.{Checks}
 use Rattle.session_law.proofs.ListLaws.{contains_at, contains_cases, contains_map, contains_map_back}
-use Rattle.session_build.specs.Going.{AreOrdered, FinishesOne, IsAmong, IsOrdered, IsPlaceOf, KeepsViews, StartsMore, TakesOut, all_left, numbers_of}
+use Rattle.session_build.specs.Going.{AreOrdered, FinishesOne, IsAmong, IsOrdered, IsJobIndex, KeepsViews, StartsMore, TakesOut, all_left, numbers_of}
 use Rattle.session_build.specs.declared.going.Going.{Going}
 use Rattle.session_build.specs.declared.going.Job.{Job}
 use Rattle.session_build.proofs.Members.{one_of_image}
@@ -99,16 +99,16 @@ starts_on a b c first second = record {
 
 -- ---- one is taken out
 
--- where a job passes the test, some place is found
+-- where a job passes the test, some index is found
 found : (test : Job → Bool) (jobs : List Job) (k : ℕ) (d : Job) → k < length jobs → test (get_or jobs k d) ≡ true → ¬ (position test jobs ≡ None)
 found test jobs k d within passes is = by (ltb (position_or_len test jobs) (length jobs)) refl is
   where
-    place : (position_or_len test jobs < length jobs) → ltb (position_or_len test jobs) (length jobs) ≡ true
-    place less = (Decides-ltb (position_or_len test jobs) (length jobs)).1 less
+    index : (position_or_len test jobs < length jobs) → ltb (position_or_len test jobs) (length jobs) ≡ true
+    index less = (Decides-ltb (position_or_len test jobs) (length jobs)).1 less
 
     before : (k < position_or_len test jobs) ⊎ (position_or_len test jobs ≤ k) → ltb (position_or_len test jobs) (length jobs) ≡ false → ⊥
     before (inl less) none = false≢true (sym (fails_before_first test jobs k d less) ∙ passes)
-    before (inr more) none = false≢true (sym none ∙ place (omega arith))
+    before (inr more) none = false≢true (sym none ∙ index (omega arith))
 
     by : (b : Bool) → ltb (position_or_len test jobs) (length jobs) ≡ b → cond b (Some (position_or_len test jobs)) None ≡ None → ⊥
     by true less none = absurd (cc)
@@ -120,32 +120,32 @@ number_found jobs number there =
     let at = from.1 in
     found (λ (job : Job). eqb job.number number) jobs at.0 from.0 at.1 (ap (λ (j : Job). eqb j.number number) at.2 ∙ (Decides-eqb from.0.number number).1 from.2)
 
-pub found_at : (jobs : List Job) (number place : ℕ) → Contains (numbers_of jobs) number → position (λ (job : Job). eqb job.number number) jobs ≡ Some place → IsPlaceOf jobs number place
-found_at jobs number place there is =
+pub found_at : (jobs : List Job) (number index : ℕ) → Contains (numbers_of jobs) number → position (λ (job : Job). eqb job.number number) jobs ≡ Some index → IsJobIndex jobs number index
+found_at jobs number index there is =
     let some = contains_map_back (λ (j : Job). j.number) jobs number there in
-    let at = position-Some (λ (job : Job). eqb job.number number) jobs place some.0 is in
+    let at = position-Some (λ (job : Job). eqb job.number number) jobs index some.0 is in
     record {
-      job = get_or jobs place some.0;
-      there = slice_get-get_or jobs place some.0 at.0;
-      number_is = (Decides-eqb (get_or jobs place some.0).number number).0 at.1;
+      job = get_or jobs index some.0;
+      there = slice_get-get_or jobs index some.0 at.0;
+      number_is = (Decides-eqb (get_or jobs index some.0).number number).0 at.1;
     }
 
-pub place_among : (jobs : List Job) (number place : ℕ) (d : Job) → IsPlaceOf jobs number place → IsAmong jobs number (get_or jobs place d).pair
-place_among jobs number place d at =
+pub index_among : (jobs : List Job) (number index : ℕ) (d : Job) → IsJobIndex jobs number index → IsAmong jobs number (get_or jobs index d).pair
+index_among jobs number index d at =
     record {
       job = at.job;
-      there = contains_at jobs place at.job at.there;
+      there = contains_at jobs index at.job at.there;
       number_is = at.number_is;
-      pair_is = ap (λ (j : Job). j.pair) (sym (get_or_from_slice_get jobs place at.job d at.there));
+      pair_is = ap (λ (j : Job). j.pair) (sym (get_or_from_slice_get jobs index at.job d at.there));
     }
 
-pub taken_at : (old new : List Job) (place : ℕ) (job : Job) → place < length old → job ≡ get_or old place job → new ≡ take place old ++ drop (place + 1) old → TakesOut old new job
-taken_at old new place job within is left = record {
-  front = take place old;
-  back = drop (place + 1) old;
+pub taken_at : (old new : List Job) (index : ℕ) (job : Job) → index < length old → job ≡ get_or old index job → new ≡ take index old ++ drop (index + 1) old → TakesOut old new job
+taken_at old new index job within is left = record {
+  front = take index old;
+  back = drop (index + 1) old;
   before =
-      sym (take-append-drop place old)
-      ∙ ap (λ (js : List Job). take place old ++ js) (drop_more old place job within ∙ ap (λ (j : Job). j ∷ drop (place + 1) old) (sym is));
+      sym (take-append-drop index old)
+      ∙ ap (λ (js : List Job). take index old ++ js) (drop_more old index job within ∙ ap (λ (j : Job). j ∷ drop (index + 1) old) (sym is));
   after = left;
 }
 

@@ -25,7 +25,8 @@ use Rattle.session_build.specs.Late.{HasKept, IsSameCheck, KeepsIf, ShowsAs, Tak
 use Rattle.session_build.specs.Remembering.{FirstFits, IsLateOf, IsOfRoot, IsOfSome, OtherFits, Remembers, RemembersChecks, table_key}
 use Rattle.session_build.specs.declared.kept.Kept.{Kept}
 use Rattle.session_build.specs.declared.late.Late.{Late}
-use Rattle.session_build.proofs.DocumentLaws.{key_at, table_key_here}
+use Rattle.build_messages.proofs.DocumentLaws.{key_at}
+use Rattle.session_build.proofs.DocumentLaws.{table_key_here}
 use Rattle.session_build.proofs.LateLaws.{at_work_on, late_on}
 use Rattle.session_build.proofs.Moved.{all_by}
 use Rattle.session_build.proofs.RememberLaws.{first_on, other_on, remembers_on}

@@ -28,7 +28,8 @@ use Rattle.session_build.specs.declared.going.Job.{Job}
 use Rattle.session_build.specs.declared.kept.Kept.{Kept}
 use Rattle.session_build.specs.declared.late.Late.{Late}
 use Rattle.session_build.specs.declared.setting.Setting.{Setting}
-use Rattle.session_build.proofs.DocumentLaws.{key_at, key_in_here}
+use Rattle.build_messages.proofs.DocumentLaws.{key_at}
+use Rattle.session_build.proofs.DocumentLaws.{key_in_here}
 use Rattle.session_build.proofs.RememberLaws.{remembers_on}
 use Rattle.target_graph.specs.Workspace.{Space, pairs_of, stem_at}
 use Rattle.target_graph.specs.declared.target.Target.{Target}
@@ -124,7 +125,7 @@ module _ (g : Given) (at : Setting) (going : Going) (told cancels : List Said) (
   job_document : (job : Job) → (runs : IsRunning g is.stage (running_of job)) → build_document g.active.build.space job.pair ≡ runs.document
   job_document job runs =
       ap (build_document g.active.build.space) (sym runs.pair_is)
-      ∙ document_own g.active.build g.documents is.of_setting.are.documents runs.document (contains_at g.documents job.place runs.document runs.there)
+      ∙ document_own g.active.build g.documents is.of_setting.are.documents runs.document (contains_at g.documents job.document_index runs.document runs.there)
 
   job_started : (job : Job) → Contains going.jobs.items job → HasStarted now (build_document at.workspace.value job.pair).key
   job_started job there =

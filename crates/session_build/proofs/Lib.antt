@@ -1,10 +1,6 @@
-pub mod RoundTrip
-pub mod Publications
 pub mod DocumentLaws
 pub mod EndingLaws
 pub mod ModuleLaws
-pub mod OutgoingLaws
-pub mod TellingLaws
 pub mod Members
 pub mod CourseSteps
 pub mod StageLaws

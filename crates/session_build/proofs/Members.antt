@@ -34,8 +34,8 @@ image_of {X} {Y} f xs y there = by xs there.0 there.1 there.2
 
 -- ---- lists without repeats
 
-pub same_place : {Y : Type 0} (ys : List Y) (i j : ℕ) (d : Y) → AllPairs ◌≢◌ ys → i < length ys → j < length ys → get_or ys i d ≡ get_or ys j d → i ≡ j
-same_place {Y} ys i j d distinct h k e = by (cases_lt i j) (cases_lt j i)
+pub same_index : {Y : Type 0} (ys : List Y) (i j : ℕ) (d : Y) → AllPairs ◌≢◌ ys → i < length ys → j < length ys → get_or ys i d ≡ get_or ys j d → i ≡ j
+same_index {Y} ys i j d distinct h k e = by (cases_lt i j) (cases_lt j i)
   where
     by : (i < j) ⊎ (j ≤ i) → (j < i) ⊎ (i ≤ j) → i ≡ j
     by (inl l) o = absurd (distinct i j d l k e)
@@ -48,8 +48,8 @@ one_of_image f xs a b distinct at_a at_b same =
     let size = length-map xs f in
     let e : get_or (map f xs) at_a.0 (f a) ≡ get_or (map f xs) at_b.0 (f a) =
     (get_or-map f xs at_a.0 a (f a) at_a.1 ∙ ap f at_a.2) ∙ (same ∙ sym (get_or-map f xs at_b.0 b (f a) at_b.1 ∙ ap f at_b.2)) in
-    let place : at_a.0 ≡ at_b.0 = same_place (map f xs) at_a.0 at_b.0 (f a) distinct (omega (arith, size, at_a.1)) (omega (arith, size, at_b.1)) e in
-    sym at_a.2 ∙ (ap (λ k. get_or xs k a) place ∙ (get_or_default xs at_b.0 a b at_b.1 ∙ at_b.2))
+    let index : at_a.0 ≡ at_b.0 = same_index (map f xs) at_a.0 at_b.0 (f a) distinct (omega (arith, size, at_a.1)) (omega (arith, size, at_b.1)) e in
+    sym at_a.2 ∙ (ap (λ k. get_or xs k a) index ∙ (get_or_default xs at_b.0 a b at_b.1 ∙ at_b.2))
 
 pub distinct_push : {X : Type 0} (xs : List X) (x : X) → AllPairs ◌≢◌ xs → ¬ (Contains xs x) → AllPairs ◌≢◌ (xs ++ x ∷ [])
 distinct_push xs x distinct apart = all_pairs_push ◌≢◌ xs x distinct (λ k d h e. apart (k, h, get_or_default xs k x d h ∙ e))

@@ -6,7 +6,8 @@ use Rattle.std.specs.List.{All, Contains, slice_get}
 use Rattle.std.proofs.lemmas.List.{length-append, map-append}
 use Rattle.std.proofs.lemmas.List.Elements.{All-push, Contains-append_left}
 use Rattle.bsp_records.specs.Table.{Table}
-use Rattle.build_checks.specs.Kept.{AreApart, AreNumbered, IsKept}
+use Rattle.build_checks.proofs.KeptLaws.{AreApart}
+use Rattle.build_checks.specs.Kept.{AreNumbered, IsKept}
 use Rattle.build_checks.specs.Looked.{IsLacked}
 use Rattle.build_checks.specs.Numbers.{AreNumbersOf}
 use Rattle.build_checks.specs.Stand.{modules_of, settled_of, taken_of, world_of}
@@ -59,7 +60,7 @@ module _ (at : Setting) (is : IsSetting at) (cache : Cache) (g : Given) (old new
   world_here = came.world_same ∙ going.agrees.world_is
 
   up : IsTakenUp g at going.stage pair
-  up = taken_up at is g old old.jobs.items told keys table going begins.job.place pair begins.there came.next
+  up = taken_up at is g old old.jobs.items told keys table going begins.job.document_index pair begins.there came.next
 
   numbered_here : AreNumbered keys (world_in g.active) pair imports
   numbered_here = subst (λ w. AreNumbered keys w pair imports) world_here (numbered keys (came.numbers keys going.numbers))
@@ -117,7 +118,7 @@ module _ (at : Setting) (is : IsSetting at) (cache : Cache) (g : Given) (old new
   runs : IsRunning g (with_begun going.stage document) (running_of begins.job)
   runs = record {
     document = document;
-    there = subst (λ (ds : List BuildDocument). slice_get ds begins.job.place ≡ Some document) (sym going.of_setting.documents) begins.there;
+    there = subst (λ (ds : List BuildDocument). slice_get ds begins.job.document_index ≡ Some document) (sym going.of_setting.documents) begins.there;
     pair_is = sym begins.pair_is;
     runs = record {
       before = length going.stage.begun;

@@ -14,7 +14,8 @@ use Rattle.session_build.specs.Remembering.{AreLate, FirstFits, HasDocument, IsL
 use Rattle.session_build.specs.declared.kept.Kept.{Kept}
 use Rattle.session_build.specs.declared.late.Late.{Late}
 use Rattle.session_build.proofs.CleanedLaws.{cleaned_started, first_gone, first_still, other_still, still_started}
-use Rattle.session_build.proofs.DocumentLaws.{key_at, table_key_here}
+use Rattle.build_messages.proofs.DocumentLaws.{key_at}
+use Rattle.session_build.proofs.DocumentLaws.{table_key_here}
 use Rattle.session_build.proofs.FilterLaws.{filtered}
 use Rattle.target_graph.specs.Workspace.{Space, pairs_of}
 use Rattle.target_graph.specs.declared.target.Pair.{Pair}

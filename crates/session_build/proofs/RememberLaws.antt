@@ -2,8 +2,8 @@
 use Rattle.std.proofs.Common.{◌≡◌, inl, inr, ℕ, List, [], Option, Some, None, sym, ap, subst, ◌∙◌}
 use Rattle.std.specs.List.{Contains, slice_get}
 use Rattle.std.proofs.lemmas.List.Elements.{All-contains, All-nil}
-use Rattle.build_checks.specs.Kept.{AreApart, AreNumbered, Extends, IsKept, ShowAlike}
-use Rattle.build_checks.proofs.KeptLaws.{hit_alike, kept_here, kept_on, same_imports}
+use Rattle.build_checks.specs.Kept.{AreNumbered, Extends, IsKept}
+use Rattle.build_checks.proofs.KeptLaws.{AreApart, ShowAlike, hit_alike, kept_here, kept_on, same_imports}
 use Rattle.build_rules.specs.Locality.{IsApart}
 use Rattle.build_rules.specs.World.{World, held_in}
 use Rattle.check_cache.specs.Facts.{FactTree}

@@ -10,7 +10,7 @@ use Rattle.session_law.specs.Methods.{Build}
 use Rattle.session_law.specs.declared.BuildDocument.{BuildDocument}
 use Rattle.session_build.specs.Setting.{IsNumberOf, IsSetting}
 use Rattle.session_build.specs.declared.setting.Setting.{Setting}
-use Rattle.session_build.proofs.DocumentLaws.{or_true, target_here}
+use Rattle.build_messages.proofs.DocumentLaws.{target_here, or_true}
 use Rattle.target_graph.specs.Workspace.{IsClosure, IsReached, Space, id_of, pairs_of}
 use Rattle.target_graph.specs.declared.target.Pair.{Pair}
 
@@ -31,11 +31,11 @@ module _ (at : Setting) (is : IsSetting at) (pair : ℕ) (among : Contains (map 
   pub pair_of : IsPairOf at.workspace.value.targets at.targets.keys pair
   pair_of = All-contains (IsPairOf at.workspace.value.targets at.targets.keys) at.pairs.keys pair is.each keyed
 
-  pub document_at : (place : ℕ) → position (nat_eq pair) at.pairs.keys ≡ Some place → slice_get at.documents place ≡ Some (build_document at.workspace.value pair)
-  document_at place found =
-      ap (λ (ds : List BuildDocument). slice_get ds place) is.are
-      ∙ (slice_get-map (build_document at.workspace.value) at.pairs.keys place
-      ∙ ap (λ (o : Option ℕ). option_map (build_document at.workspace.value) o) (index_there at.pairs.keys pair place found))
+  pub document_at : (index : ℕ) → position (nat_eq pair) at.pairs.keys ≡ Some index → slice_get at.documents index ≡ Some (build_document at.workspace.value pair)
+  document_at index found =
+      ap (λ (ds : List BuildDocument). slice_get ds index) is.are
+      ∙ (slice_get-map (build_document at.workspace.value) at.pairs.keys index
+      ∙ ap (λ (o : Option ℕ). option_map (build_document at.workspace.value) o) (index_there at.pairs.keys pair index found))
 
   pub number_at : (target : Pair) (before : ℕ) → slice_get (pairs_of at.workspace.value.targets) pair ≡ Some target → position (nat_eq target.target) at.targets.keys ≡ Some before
       → IsNumberOf at pair (before + 1)

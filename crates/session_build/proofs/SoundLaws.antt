@@ -105,7 +105,7 @@ module _ (at : Setting) (old : Going) (sound : IsSound at old) (c : Checks) (pai
           checks = settles.checks;
           space = ap (λ (w : World). w.targets) (settles.world_same ∙ came.world_same) ∙ sound.space;
           modules = subst (SameMembers (map (λ (d : BuildDocument). d.pair) at.documents)) (sym (settles.modules_same ∙ came.modules_same)) sound.modules;
-          sized = ap (λ (ts : List Tally). length ts) settles.tallies ∙ (set_size old.tallies.items settles.place settles.tally ∙ sound.sized);
+          sized = ap (λ (ts : List Tally). length ts) settles.tallies ∙ (set_size old.tallies.items settles.index settles.tally ∙ sound.sized);
           settled_taken = λ p there. settled_in p (settled_cases p there);
           each = subst (All (IsJob new.checks)) (sym jobs) (λ k d h. still (get_or old.jobs.items k d) (sound.each k d h));
           distinct = subst (λ (js : List Job). AllPairs ◌≢◌ (map (λ (job : Job). job.pair) js)) (sym jobs) sound.distinct;
@@ -245,7 +245,7 @@ module _ (at : Setting) (old mid : Going) (job : Job) (fact : FactTree) (keys la
         checks = settles.checks;
         space = ap (λ (w : World). w.targets) settles.world_same ∙ sound.space;
         modules = subst (SameMembers (map (λ (d : BuildDocument). d.pair) at.documents)) (sym settles.modules_same) sound.modules;
-        sized = ap (λ (ts : List Tally). length ts) settles.tallies ∙ (set_size old.tallies.items settles.place settles.tally ∙ sound.sized);
+        sized = ap (λ (ts : List Tally). length ts) settles.tallies ∙ (set_size old.tallies.items settles.index settles.tally ∙ sound.sized);
         settled_taken = λ p there. finished_in p (finished_cases p there);
         each =
             subst (All (IsJob mid.checks)) (sym jobs)

@@ -1,19 +1,25 @@
 -- What is kept of a stage agrees with it, one step after another.
-use Rattle.std.proofs.Common.{◌≡◌, ◌≢◌, ◌⊎◌, inl, inr, ◌++◌, ℕ, zero, suc, List, [], ◌∷◌, get_or, Some, sym, subst, ◌∙◌, arith}
+use Rattle.std.proofs.Common.{◌≡◌, ◌≢◌, ◌≤◌, ◌⊎◌, inl, inr, ◌++◌, ℕ, zero, suc, List, [], ◌∷◌, get_or, Some, sym, subst, ◌∙◌, arith}
+use Rattle.std.specs.Prelude.{◌↔◌}
 use Rattle.std.specs.List.{AllPairs, Contains, slice_get}
 use Rattle.std.proofs.lemmas.List.{map-append}
 use Rattle.std.proofs.lemmas.List.Elements.{All-nil, All-push, All-head, All-tail, All-contains, All-weaker, Contains-get_or, Contains-push, Contains-push_cases, Contains-append_left}
+use Rattle.build_checks.specs.Stand as stand
 use Rattle.build_rules.specs.World.{World, Imports, IsCyclic}
 use Rattle.session_law.specs.Builds.{Finding}
 use Rattle.session_law.specs.Course.{Given, Stage, IsNext, IsReady, NoneIsNext, first_stage, pairs_in, with_known, with_begun, with_checked}
 use Rattle.session_law.specs.History.{world_in}
 use Rattle.session_law.specs.declared.BuildDocument.{BuildDocument}
 use Rattle.session_law.proofs.ListLaws.{contains_cases, contains_none}
-use Rattle.session_build.specs.Stages.{Adds, Agrees, AreBegun, IsFirstIn, IsReadyIn, IsRunning, NoneIsReadyIn, Running, SameMembers, pairs_running}
+use Rattle.session_build.specs.Stages.{Agrees, AreBegun, IsRunning, Running, SameMembers, pairs_running}
 use Rattle.session_build.proofs.Moved.{all_by, map_moved, moved_back, moved_map}
 use Rattle.session_build.proofs.Members.{IsImage, contains_at, contains_map, distinct_first, distinct_push, distinct_rest, image_of}
 
 -- ---- members
+
+-- the module, and no other, came to these
+abbrev pub Adds : List ℕ → ℕ → List ℕ → Type 0
+Adds old p new = (q : ℕ) → Contains new q ↔ (Contains old q ⊎ (p ≡ q))
 
 members_push : (xs ys zs : List ℕ) (p : ℕ) → SameMembers xs ys → Adds ys p zs → SameMembers (xs ++ p ∷ []) zs
 members_push xs ys zs p same adds q = (λ there. (adds q).1 (on (Contains-push_cases xs p q there)), λ there. back ((adds q).0 there))
@@ -49,8 +55,13 @@ slice_get_left (x ∷ xs) ys (suc k) q there = slice_get_left xs ys k q there
 
 -- ---- which document is next
 
+-- no module that can be taken is before this one
+pub record IsFirstIn (w : World) (modules taken settled : List ℕ) (p : ℕ) : Type 0 where
+  pub ready : stand.IsReady w modules taken settled p
+  pub least : (q : ℕ) → stand.IsReady w modules taken settled q → p ≤ q
+
 module _ (g : Given) (s : Stage) (w : World) (modules taken settled : List ℕ) (agrees : Agrees g s w modules taken settled) where
-  ready_in : (document : BuildDocument) → IsReady g s document → IsReadyIn w modules taken settled document.pair
+  ready_in : (document : BuildDocument) → IsReady g s document → stand.IsReady w modules taken settled document.pair
   ready_in document ready = record {
     among =
         (agrees.modules_are document.pair).0 (contains_map (λ (d : BuildDocument). d.pair) g.documents document ready.there);
@@ -62,7 +73,7 @@ module _ (g : Given) (s : Stage) (w : World) (modules taken settled : List ℕ) 
       on q (inl there) = inl ((agrees.settled_are q).0 there)
       on q (inr cyclic) = inr (subst (λ v. IsCyclic v q) (sym agrees.world_is) cyclic)
 
-  ready_back : (document : BuildDocument) → Contains g.documents document → IsReadyIn w modules taken settled document.pair → IsReady g s document
+  ready_back : (document : BuildDocument) → Contains g.documents document → stand.IsReady w modules taken settled document.pair → IsReady g s document
   ready_back document there ready = record {
     there = there;
     is_new = λ taken_it. ready.is_new ((agrees.taken_are document.pair).0 taken_it);
@@ -79,7 +90,7 @@ module _ (g : Given) (s : Stage) (w : World) (modules taken settled : List ℕ) 
     least = λ other ready. first.least other.pair (ready_in other ready);
   }
 
-  pub none_here : NoneIsReadyIn w modules taken settled → NoneIsNext g s
+  pub none_here : ((p : ℕ) → ¬ (stand.IsReady w modules taken settled p)) → NoneIsNext g s
   none_here none document ready = none document.pair (ready_in document ready)
 
   -- ---- members, step by step

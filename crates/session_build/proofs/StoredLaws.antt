@@ -16,7 +16,7 @@ use Rattle.session_build.specs.Going.{pairs_made, told_by}
 use Rattle.session_build.specs.Remembering.{FirstFits, HasDocument, IsOfRoot, IsOfSome, OtherFits, RemembersChecks}
 use Rattle.session_build.specs.Storing.{StoresAll}
 use Rattle.session_build.specs.declared.going.Made.{Made}
-use Rattle.session_build.proofs.DocumentLaws.{among_by, apart_by, key_at}
+use Rattle.build_messages.proofs.DocumentLaws.{key_at, among_by, apart_by}
 use Rattle.session_build.proofs.Members.{image_of}
 use Rattle.session_build.proofs.RememberLaws.{last_some}
 use Rattle.target_graph.specs.Faults.{IsRepeat}

@@ -15,7 +15,7 @@ use Rattle.session_law.specs.declared.BuildDocument.{BuildDocument}
 use Rattle.session_law.proofs.ListLaws.{contains_map, contains_none}
 use Rattle.session_build.specs.Tallies.{AreTallied, IsCount, IsTallied, tally_from, with_tally}
 use Rattle.session_build.specs.declared.tally.Tally.{Tally}
-use Rattle.session_build.proofs.DocumentLaws.{among_by, any_at}
+use Rattle.build_messages.proofs.DocumentLaws.{among_by, any_at}
 
 module _ (id : List ℕ) (sum : Tally) (documents : List BuildDocument) (tallies : List Tally) (k : ℕ) (d : BuildDocument) (t : Tally) (h : k < length documents) (l : k < length tallies) where
   step : (same : Bool) → same ≡ bytes_eq (get_or documents k d).key.target id
@@ -74,30 +74,30 @@ set_other (x ∷ xs) (suc k) zero t other = refl
 set_other (x ∷ xs) (suc k) (suc i) t other = set_other xs k i t (λ e. other (ap (λ n. suc n) e))
 
 pub tallied_none : (documents : List BuildDocument) (tallies : List Tally) → AreTallied documents first_stage tallies
-tallied_none documents tallies finding place there here = absurd (contains_none finding there)
+tallied_none documents tallies finding index there here = absurd (contains_none finding there)
 
 module _ (documents : List BuildDocument) (s : Stage) (tallies : List Tally) (are : AreTallied documents s tallies) where
   -- a document is settled
-  pub tallied_settled : (taken : List ℕ) (finding : Finding) (place : ℕ) (tally : Tally) → place < length tallies → slice_get documents place ≡ Some finding.document
-      → ((k : ℕ) (d : BuildDocument) → slice_get documents k ≡ Some d → d.pair ≡ finding.document.pair → k ≡ place)
+  pub tallied_settled : (taken : List ℕ) (finding : Finding) (index : ℕ) (tally : Tally) → index < length tallies → slice_get documents index ≡ Some finding.document
+      → ((k : ℕ) (d : BuildDocument) → slice_get documents k ≡ Some d → d.pair ≡ finding.document.pair → k ≡ index)
       → ¬ (Contains (pairs_in s.settled) finding.document.pair) → IsCount (has_begun s finding.document.pair) finding.list tally
-      → AreTallied documents (record { begun = s.begun; taken = taken; settled = s.settled ++ finding ∷ [] }) (slice_set tallies place tally)
-  tallied_settled taken finding place tally h there one unsettled count other k among here = by (Contains-push_cases s.settled finding other among) (cases_eq k place)
+      → AreTallied documents (record { begun = s.begun; taken = taken; settled = s.settled ++ finding ∷ [] }) (slice_set tallies index tally)
+  tallied_settled taken finding index tally h there one unsettled count other k among here = by (Contains-push_cases s.settled finding other among) (cases_eq k index)
     where
-      own : finding ≡ other → IsTallied (record { begun = s.begun; taken = taken; settled = s.settled ++ finding ∷ [] }) other (slice_set tallies place tally) k
+      own : finding ≡ other → IsTallied (record { begun = s.begun; taken = taken; settled = s.settled ++ finding ∷ [] }) other (slice_set tallies index tally) k
       own same =
-          let place_is : k ≡ place = one k other.document here (ap (λ (f : Finding). f.document.pair) (sym same)) in
+          let index_is : k ≡ index = one k other.document here (ap (λ (f : Finding). f.document.pair) (sym same)) in
           record {
             tally = tally;
-            there = ap (slice_get (slice_set tallies place tally)) place_is ∙ set_same tallies place tally h;
+            there = ap (slice_get (slice_set tallies index tally)) index_is ∙ set_same tallies index tally h;
             is = subst (λ (f : Finding). IsCount (has_begun s f.document.pair) f.list tally) same count;
           }
 
-      by : Contains s.settled other ⊎ (finding ≡ other) → (k ≡ place) ⊎ (k ≡ place → ⊥) → IsTallied (record { begun = s.begun; taken = taken; settled = s.settled ++ finding ∷ [] }) other (slice_set tallies place tally) k
+      by : Contains s.settled other ⊎ (finding ≡ other) → (k ≡ index) ⊎ (k ≡ index → ⊥) → IsTallied (record { begun = s.begun; taken = taken; settled = s.settled ++ finding ∷ [] }) other (slice_set tallies index tally) k
       by (inr same) o = own same
       by (inl old) (inr apart) =
           let it = are other k old here in
-          record { tally = it.tally; there = set_other tallies k place tally apart ∙ it.there; is = it.is }
+          record { tally = it.tally; there = set_other tallies k index tally apart ∙ it.there; is = it.is }
       by (inl old) (inl same) =
           let document : finding.document ≡ other.document = same_Some finding.document other.document (sym there ∙ (ap (slice_get documents) (sym same) ∙ here)) in
           absurd (unsettled (subst (Contains (pairs_in s.settled)) (ap (λ (d : BuildDocument). d.pair) (sym document)) (contains_map (λ (f : Finding). f.document.pair) s.settled other old)))

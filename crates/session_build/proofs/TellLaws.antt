@@ -8,9 +8,9 @@ use Rattle.session_law.specs.Tasks.{target_cancelled, target_starts}
 use Rattle.session_build.specs.Building.{IsNotice}
 use Rattle.session_build.specs.Cancels.{targets_said}
 use Rattle.session_build.specs.Ending.{target_reported, targets_reported}
-use Rattle.session_build.specs.Outgoing.{outgoing_said}
-use Rattle.session_build.specs.Telling.{Tells, starts_from}
-use Rattle.session_build.specs.declared.outgoing.Outgoing.{Outgoing}
+use Rattle.build_messages.specs.Outgoing.{outgoing_said}
+use Rattle.session_build.specs.Telling.{TellsBehind, starts_from}
+use Rattle.build_messages.specs.declared.outgoing.Outgoing.{Outgoing}
 use Rattle.session_build.specs.declared.setting.Setting.{Setting}
 use Rattle.session_build.specs.declared.tally.Tally.{Tally}
 use Rattle.target_graph.specs.Workspace.{id_of}
@@ -19,11 +19,11 @@ pub said_push : (old new : List Outgoing) (m : Outgoing) (s : Said) → new ≡ 
 said_push old new m s is said =
     ap (map outgoing_said) is ∙ (map-append outgoing_said old (m ∷ []) ∙ ap (λ (x : Said). map outgoing_said old ++ x ∷ []) said)
 
-pub tells_none : (before after : List Said) → after ≡ before → Tells [] before after
+pub tells_none : (before after : List Said) → after ≡ before → TellsBehind [] before after
 tells_none before after is = record { are = is ∙ sym (append-nil before); framed = All-nil IsFramed; notices = All-nil IsNotice }
 
 -- one message more
-pub tells_push : (told before mid after : List Said) (m : Said) → Tells told before mid → after ≡ mid ++ m ∷ [] → IsFramed m → IsNotice m → Tells (told ++ m ∷ []) before after
+pub tells_push : (told before mid after : List Said) (m : Said) → TellsBehind told before mid → after ≡ mid ++ m ∷ [] → IsFramed m → IsNotice m → TellsBehind (told ++ m ∷ []) before after
 tells_push told before mid after m tells is framed notice = record {
   are = is ∙ (ap (λ (xs : List Said). xs ++ m ∷ []) tells.are ∙ append_assoc before told (m ∷ []));
   framed = All-push IsFramed told m tells.framed framed;
@@ -31,7 +31,7 @@ tells_push told before mid after m tells is framed notice = record {
 }
 
 -- and others more
-pub tells_on : (own more before mid after : List Said) → Tells own before mid → Tells more mid after → Tells (own ++ more) before after
+pub tells_on : (own more before mid after : List Said) → TellsBehind own before mid → TellsBehind more mid after → TellsBehind (own ++ more) before after
 tells_on own more before mid after first second = record {
   are = second.are ∙ (ap (λ (xs : List Said). xs ++ more) first.are ∙ append_assoc before own more);
   framed = All-append IsFramed own more first.framed second.framed;

@@ -16,7 +16,7 @@ use Rattle.session_build.specs.Going.{IsAmong, IsGoing, IsOrdered, IsSound, Keep
 pub use Rattle.session_build.specs.Going.{told_by}
 use Rattle.session_build.specs.Remembering.{Remembers}
 use Rattle.session_build.specs.Setting.{IsSetting}
-use Rattle.session_build.specs.Telling.{Tells}
+use Rattle.session_build.specs.Telling.{TellsBehind}
 use Rattle.session_build.specs.declared.building.Build.{Build}
 use Rattle.session_build.specs.declared.building.BuildRequest.{BuildRequest}
 use Rattle.session_build.specs.declared.building.Went.{Went}
@@ -112,7 +112,7 @@ pub record IsBegun (active : Active) (builds : List Told) (shown : Table) (went 
 -- A build began. What it told goes behind other messages, and no check finishes by it.
 pub record HasBegun (space : Space) (request : BuildRequest) (entries : Entries) (went : Went) (old new : Kept) (table shown : Table) (before after : List Said) : Type 0 where
   pub own : List Said
-  pub tells : Tells own before after
+  pub tells : TellsBehind own before after
   pub bare : All IsBare own
   pub more : Extends old.keys new.keys
   pub begins : (id : Id) (builds : List Told) → Remembers space builds old → IsBegun (requested space request entries id) builds table went own shown new
@@ -120,7 +120,7 @@ pub record HasBegun (space : Space) (request : BuildRequest) (entries : Entries)
 -- The build went on by what the check of this work found, whatever course it was on.
 pub record HasGoneOn (b : Build) (number : ℕ) (work : CheckTree) (went : Went) (old new : Kept) (table shown : Table) (before after : List Said) : Type 0 where
   pub own : List Said
-  pub tells : Tells own before after
+  pub tells : TellsBehind own before after
   pub more : Extends old.keys new.keys
   pub goes : (g : Given) (told : List Said) → IsAtWork g b told old.keys table → Remembers g.active.build.space g.earlier old → IsWork g b number work
       → IsWith g went (told ++ own) shown new
@@ -129,7 +129,7 @@ pub record HasGoneOn (b : Build) (number : ℕ) (work : CheckTree) (went : Went)
 -- finishes but as cancelled.
 pub record HasCancelled (b : Build) (old new : Kept) (before after : List Said) : Type 0 where
   pub own : List Said
-  pub tells : Tells own before after
+  pub tells : TellsBehind own before after
   pub bare : All IsBare own
   pub same : new.keys ≡ old.keys
   pub cancels : (g : Given) (told : List Said) (table : Table) → IsAtWork g b told old.keys table → IsCancelledBy g told own

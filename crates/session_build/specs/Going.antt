@@ -14,12 +14,12 @@ use Rattle.check_cache.specs.Facts.{FactTree, IsFact, names_of}
 use Rattle.check_cache.specs.declared.cache.Cache.{Cache}
 use Rattle.oberon_types.specs.Memory.{plain_view}
 use Rattle.rpc_peer.specs.Said.{Said}
-use Rattle.session_build.specs.Publishing.{IsPublishedOne}
+use Rattle.build_messages.specs.Publishing.{IsPublishedOne}
 use Rattle.session_build.specs.Remembering.{RemembersChecks}
 use Rattle.session_build.specs.Setting.{IsNumberOf, IsSettingOf}
 use Rattle.session_build.specs.Stages.{Agrees, AreBegun, IsOnCourse, Running, SameMembers}
 use Rattle.session_build.specs.Tallies.{AreTallied, IsCount}
-use Rattle.session_build.specs.Telling.{Tells}
+use Rattle.session_build.specs.Telling.{TellsBehind}
 use Rattle.session_build.specs.declared.going.Going.{Going}
 use Rattle.session_build.specs.declared.going.Job.{Job}
 use Rattle.session_build.specs.declared.going.Made.{Made}
@@ -34,7 +34,7 @@ use Rattle.session_law.specs.Verdicts.{IsBare}
 use Rattle.worker_pool.specs.Jobs.{CheckTree}
 
 abbrev pub running_of : Job → Running
-running_of job = record { pair = job.pair; place = job.place; target = job.target; number = job.number }
+running_of job = record { pair = job.pair; document_index = job.document_index; target = job.target; number = job.number }
 
 abbrev pub all_running : List Job → List Running
 all_running jobs = map running_of jobs
@@ -89,10 +89,10 @@ pub record StartsMore (old new : Going) : Type 0 where
   pub ordered : IsOrdered old → IsOrdered new
   pub checks : KeepsViews old.checks new.checks
 
--- the check with this number stands at this place
-pub record IsPlaceOf (jobs : List Job) (number place : ℕ) : Type 0 where
+-- the check with this number stands at this index
+pub record IsJobIndex (jobs : List Job) (number index : ℕ) : Type 0 where
   pub job : Job
-  pub there : slice_get jobs place ≡ Some job
+  pub there : slice_get jobs index ≡ Some job
   pub number_is : job.number ≡ number
 
 -- one of the jobs is taken out, wherever it stands
@@ -142,7 +142,7 @@ IsGoing g at going told keys table = IsGoingWith g at going going.jobs.items tol
 -- messages, and no check finishes by it.
 pub record Goes (at : Setting) (cache : Cache) (old new : Going) (before after : List Said) (keys later : List (List ℕ)) (table shown : Table) : Type 0 where
   pub own : List Said
-  pub tells : Tells own before after
+  pub tells : TellsBehind own before after
   pub bare : All IsBare own
   pub more : Extends keys later
   pub on : (g : Given) (told : List Said) → RemembersChecks at.workspace.value g.earlier cache keys → IsGoing g at old told keys table
@@ -151,7 +151,7 @@ pub record Goes (at : Setting) (cache : Cache) (old new : Going) (before after :
 -- the same where the job runs beside those that are kept, and this fact is what its check finds
 pub record GoesBy (at : Setting) (job : Job) (fact : FactTree) (old new : Going) (before after : List Said) (keys later : List (List ℕ)) (table shown : Table) : Type 0 where
   pub own : List Said
-  pub tells : Tells own before after
+  pub tells : TellsBehind own before after
   pub more : Extends keys later
   pub on : (g : Given) (told : List Said) → IsKept keys (world_of old.checks) job.pair fact → IsGoingWith g at old (job ∷ old.jobs.items) told keys table
       → IsGoing g at new (told ++ own) later shown
@@ -167,7 +167,7 @@ pub record IsAmong (jobs : List Job) (number pair : ℕ) : Type 0 where
 -- the check was of the document whose check has this number.
 pub record GoesOnBy (at : Setting) (cache : Cache) (number : ℕ) (work : CheckTree) (old new : Going) (before after : List Said) (keys later : List (List ℕ)) (table shown : Table) : Type 0 where
   pub own : List Said
-  pub tells : Tells own before after
+  pub tells : TellsBehind own before after
   pub more : Extends keys later
   pub on : (g : Given) (told : List Said) → RemembersChecks at.workspace.value g.earlier cache keys
       → ((pair : ℕ) → IsAmong old.jobs.items number pair → IsWorkOf (world_of old.checks) pair work)
@@ -193,7 +193,7 @@ GoesThrough c = ((p : ℕ) → Contains (taken_of c) p → Contains (settled_of 
 pub record Begins (at : Setting) (old new : Going) (pair : ℕ) (imports : List (List ℕ × ℕ)) (before after : List Said) : Type 0 where
   pub job : Job
   pub pair_is : job.pair ≡ pair
-  pub there : slice_get at.documents job.place ≡ Some (build_document at.workspace.value pair)
+  pub there : slice_get at.documents job.document_index ≡ Some (build_document at.workspace.value pair)
   pub of_target : IsNumberOf at pair job.target
   pub number_is : job.number ≡ suc old.begun
   pub imports_are : job.imports.items ≡ imports
@@ -218,11 +218,11 @@ pub record SettlesBy (at : Setting) (old new : Going) (pair : ℕ) (begun : Bool
       → AreNumbersOf keys old.checks → AreNumbersOf later new.checks
   pub stays : (ks : List (List ℕ)) → AreNumbersOf ks new.checks → AreNumbersOf ks old.checks
   pub more : Extends keys later
-  pub place : ℕ
-  pub there : slice_get at.documents place ≡ Some (build_document at.workspace.value pair)
+  pub index : ℕ
+  pub there : slice_get at.documents index ≡ Some (build_document at.workspace.value pair)
   pub tally : Tally
   pub counted : IsCount begun fact.checked.list.items tally
-  pub tallies : new.tallies.items ≡ slice_set old.tallies.items place tally
+  pub tallies : new.tallies.items ≡ slice_set old.tallies.items index tally
   pub failed : Bool
   pub published : IsPublishedOne table shown (build_document at.workspace.value pair) at.origin.value fact.checked.list.items before after failed
   pub count : new.begun ≡ old.begun

@@ -71,10 +71,10 @@ pub record TakesLate (old : List Late) (number : ℕ) (taken : Option Late) (new
   pub is : IsTaken old number taken
   pub rest : (late : Late) → Contains new late → Contains old late
 
--- the place of one that is waited for under this number, if any
-abbrev pub IsPlaceIn : List Late → ℕ → Option ℕ → Type 0
-IsPlaceIn late number None = (one : Late) → Contains late one → ¬ (one.number ≡ number)
-IsPlaceIn late number (Some place) = (one : Late) × (slice_get late place ≡ Some one) × (one.number ≡ number)
+-- the index of one that is waited for under this number, if any
+abbrev pub IsLateIndex : List Late → ℕ → Option ℕ → Type 0
+IsLateIndex late number None = (one : Late) → Contains late one → ¬ (one.number ≡ number)
+IsLateIndex late number (Some index) = (one : Late) × (slice_get late index ≡ Some one) × (one.number ≡ number)
 
 -- the other place of the pair with this key has what the check found
 pub record IsPlaced (new : Cache) (key : PairKey) (checked : Checked) : Type 0 where

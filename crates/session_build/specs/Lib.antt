@@ -6,9 +6,7 @@ pub mod Documents
 pub mod Ending
 pub mod Going
 pub mod Late
-pub mod Outgoing
 pub mod Pausing
-pub mod Publishing
 pub mod Remembering
 pub mod Setting
 pub mod Stages

@@ -8,7 +8,7 @@ use Rattle.session_build.specs.Building.{IsBuilt}
 use Rattle.session_build.specs.Going.{GoesThrough, IsGoing, IsOrdered, IsSound, NoneCanBeTaken}
 use Rattle.session_build.specs.Remembering.{Remembers}
 use Rattle.session_build.specs.Setting.{IsSetting}
-use Rattle.session_build.specs.Telling.{Tells}
+use Rattle.session_build.specs.Telling.{TellsBehind}
 use Rattle.session_build.specs.declared.building.Build.{Build}
 use Rattle.session_build.specs.declared.building.Went.{Went}
 use Rattle.session_build.specs.declared.building.Went.TheVariants.{On, Ended}
@@ -27,7 +27,7 @@ pub record IsPaused (b : Build) : Type 0 where
 -- The build ended, whatever course it was on. What it told goes behind other messages.
 pub record HasFinished (b : Build) (old new : Kept) (before after : List Said) (failed : Bool) : Type 0 where
   pub own : List Said
-  pub tells : Tells own before after
+  pub tells : TellsBehind own before after
   pub bare : All IsBare own
   pub same : new.keys ≡ old.keys
   pub ends : (g : Given) (told : List Said) (table : Table) → IsGoing g b.at b.going told old.keys table → Remembers b.at.workspace.value g.earlier old
@@ -40,7 +40,7 @@ Stays b (Ended failed remains) = b.going.jobs.items ≡ []
 
 pub record HasPaused (b : Build) (went : Went) (old new : Kept) (before after : List Said) : Type 0 where
   pub own : List Said
-  pub tells : Tells own before after
+  pub tells : TellsBehind own before after
   pub bare : All IsBare own
   pub same : new.keys ≡ old.keys
   pub stays : Stays b went

@@ -1,8 +1,8 @@
 -- How far a build is: its course, and what is kept of its stage.
-use Rattle.std.specs.Prelude.{◌≡◌, ◌≢◌, ◌≤◌, ◌⊎◌, ◌↔◌, ℕ, List, [], ◌∷◌, map, Some, Contains, All}
+use Rattle.std.specs.Prelude.{◌≡◌, ◌≢◌, ◌⊎◌, ◌↔◌, ℕ, List, [], ◌∷◌, map, Some, Contains, All}
 use Rattle.std.specs.List.{AllPairs, slice_get}
 use Rattle.bsp_records.specs.Table.{Table}
-use Rattle.build_rules.specs.World.{World, Imports, IsCyclic}
+use Rattle.build_rules.specs.World.{World}
 use Rattle.rpc_peer.specs.Said.{Said}
 use Rattle.session_law.specs.Builds.{Shows, table_behind}
 use Rattle.session_law.specs.Course.{Given, Stage, Course, Runs, pairs_in}
@@ -42,13 +42,13 @@ pub record Agrees (g : Given) (s : Stage) (w : World) (modules taken settled : L
 -- and its own
 pub record Running : Type 0 where
   pub pair : ℕ
-  pub place : ℕ
+  pub document_index : ℕ
   pub target : ℕ
   pub number : ℕ
 
 pub record IsRunning (g : Given) (s : Stage) (running : Running) : Type 0 where
   pub document : BuildDocument
-  pub there : slice_get g.documents running.place ≡ Some document
+  pub there : slice_get g.documents running.document_index ≡ Some document
   pub pair_is : document.pair ≡ running.pair
   pub runs : Runs s document running.number
   pub of_target : IsTaskOf g.active document.key.target running.target
@@ -65,22 +65,3 @@ pub record AreBegun (g : Given) (s : Stage) (running : List Running) (made : Lis
   pub made_begun : All (Contains s.begun) made
   pub made_settled : All (Contains (pairs_in s.settled)) made
   pub made_distinct : AllPairs ◌≢◌ made
-
--- ---- which module is next
-
--- the module wasn't taken yet, and all that it imports is settled or on a cycle
-pub record IsReadyIn (w : World) (modules taken settled : List ℕ) (p : ℕ) : Type 0 where
-  pub among : Contains modules p
-  pub is_new : ¬ (Contains taken p)
-  pub clear : (q : ℕ) → Imports w p q → Contains settled q ⊎ IsCyclic w q
-
-pub record IsFirstIn (w : World) (modules taken settled : List ℕ) (p : ℕ) : Type 0 where
-  pub ready : IsReadyIn w modules taken settled p
-  pub least : (q : ℕ) → IsReadyIn w modules taken settled q → p ≤ q
-
-abbrev pub NoneIsReadyIn : World → List ℕ → List ℕ → List ℕ → Type 0
-NoneIsReadyIn w modules taken settled = (p : ℕ) → ¬ (IsReadyIn w modules taken settled p)
-
--- the module, and no other, came to these
-abbrev pub Adds : List ℕ → ℕ → List ℕ → Type 0
-Adds old p new = (q : ℕ) → Contains new q ↔ (Contains old q ⊎ (p ≡ q))

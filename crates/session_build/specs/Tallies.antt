@@ -35,12 +35,12 @@ pub record IsCount (begun : Bool) (list : List Diagnostic) (tally : Tally) : Typ
   pub errors_are : tally.errors ≡ count_errors list
   pub warnings_are : tally.warnings ≡ count_warnings list
 
-pub record IsTallied (s : Stage) (finding : Finding) (tallies : List Tally) (place : ℕ) : Type 0 where
+pub record IsTallied (s : Stage) (finding : Finding) (tallies : List Tally) (index : ℕ) : Type 0 where
   pub tally : Tally
-  pub there : slice_get tallies place ≡ Some tally
+  pub there : slice_get tallies index ≡ Some tally
   pub is : IsCount (has_begun s finding.document.pair) finding.list tally
 
 -- each document that is settled has its tally, at its index
 abbrev pub AreTallied : List BuildDocument → Stage → List Tally → Type 0
 AreTallied documents s tallies =
-    (finding : Finding) (place : ℕ) → Contains s.settled finding → slice_get documents place ≡ Some finding.document → IsTallied s finding tallies place
+    (finding : Finding) (index : ℕ) → Contains s.settled finding → slice_get documents index ≡ Some finding.document → IsTallied s finding tallies index

@@ -13,10 +13,10 @@ starts_from at i [] = []
 starts_from at i (target ∷ targets) = target_starts at.number i (id_of at.workspace.value target) ∷ starts_from at (suc i) targets
 
 -- these messages go behind others, and each is a notification of the server
-pub record Tells (told before after : List Said) : Type 0 where
+pub record TellsBehind (told before after : List Said) : Type 0 where
   pub are : after ≡ before ++ told
   pub framed : All IsFramed told
   pub notices : All IsNotice told
 
 abbrev pub TellsStarts : Setting → List Said → List Said → Type 0
-TellsStarts at before after = Tells (build_starts at.number ∷ starts_from at 1 at.targets.keys) before after
+TellsStarts at before after = TellsBehind (build_starts at.number ∷ starts_from at 1 at.targets.keys) before after

@@ -1,13 +1,12 @@
 ghost use Rattle.std.specs.Prelude.{◌≡◌, ◌<◌, ◌^◌, length, map, OnOk};
 ghost use Rattle.session_build.specs.Cancels.{cancels_said, checks_said, targets_said};
-ghost use Rattle.session_build.specs.Outgoing.{outgoing_said};
-ghost use Rattle.session_build.specs.Telling.{Tells};
+ghost use Rattle.build_messages.specs.Outgoing.{outgoing_said};
+ghost use Rattle.session_build.specs.Telling.{TellsBehind};
 
 use crate::going::Job;
-use crate::outgoing::Outgoing;
 use crate::setting::Setting;
-use crate::tasks::{build_finishes, check_finishes, target_cancelled};
 use bsp_records::StatusCode;
+use build_messages::{Outgoing, build_finishes, check_finishes, target_cancelled};
 use ob_text::NoMemory;
 use std::collections::VecDeque;
 
@@ -17,7 +16,7 @@ pub(crate) fn cancel_build(
     jobs: &[Job],
     out: &mut VecDeque<Outgoing>,
 ) -> Result<(), NoMemory>
-    ensures tells { OnOk result (Tells (cancels_said at.now jobs.now) (map outgoing_said out.old.items) (map outgoing_said out.new.items)) }
+    ensures tells { OnOk result (TellsBehind (cancels_said at.now jobs.now) (map outgoing_said out.old.items) (map outgoing_said out.new.items)) }
     // A number of 64 bits counts the targets.
     ensures few { length at.now.targets.keys < 2 ^ 64 }
 {
@@ -30,7 +29,7 @@ pub(crate) fn cancel_build(
 }
 
 fn cancel_checks(at: &Setting, jobs: &[Job], out: &mut VecDeque<Outgoing>) -> Result<(), NoMemory>
-    ensures { OnOk result (Tells (checks_said at.now jobs.now) (map outgoing_said out.old.items) (map outgoing_said out.new.items)) }
+    ensures { OnOk result (TellsBehind (checks_said at.now jobs.now) (map outgoing_said out.old.items) (map outgoing_said out.new.items)) }
 {
     for job in jobs {
         let (number, target) = (job.number, job.target);
@@ -41,10 +40,10 @@ fn cancel_checks(at: &Setting, jobs: &[Job], out: &mut VecDeque<Outgoing>) -> Re
 }
 
 fn cancel_targets(at: &Setting, out: &mut VecDeque<Outgoing>) -> Result<(), NoMemory>
-    ensures { OnOk result (Tells (targets_said at.now 1 at.now.targets.keys) (map outgoing_said out.old.items) (map outgoing_said out.new.items)) }
+    ensures { OnOk result (TellsBehind (targets_said at.now 1 at.now.targets.keys) (map outgoing_said out.old.items) (map outgoing_said out.new.items)) }
 {
-    for place in 0..at.targets.len() {
-        let finish = target_cancelled(at.alloc, at.number, place as u64 + 1)?;
+    for index in 0..at.targets.len() {
+        let finish = target_cancelled(at.alloc, at.number, index as u64 + 1)?;
         out.push_back(finish)?;
     }
     Ok(())

@@ -3,18 +3,17 @@ ghost use Rattle.std.specs.List.{list_any};
 ghost use Rattle.bsp_address.specs.Address.{IsAddress};
 ghost use Rattle.session_law.specs.IsFramed.{IsFramed};
 ghost use Rattle.session_build.specs.Ending.{ends_said, no_op_by, report_by, target_reported, targets_reported};
-ghost use Rattle.session_build.specs.Outgoing.{outgoing_said};
+ghost use Rattle.build_messages.specs.Outgoing.{outgoing_said};
 ghost use Rattle.session_build.specs.Setting.{IsSetting};
 ghost use Rattle.session_build.specs.Tallies.{has_errors};
-ghost use Rattle.session_build.specs.Telling.{Tells};
+ghost use Rattle.session_build.specs.Telling.{TellsBehind};
 
 use crate::going::status_of;
-use crate::outgoing::Outgoing;
 use crate::setting::Setting;
 use crate::tally::{Tally, has_errors, tally_of};
-use crate::tasks::{build_finishes, target_finishes};
 use bsp_address::Address;
 use bsp_records::{BuildTargetIdentifier, CompileReport};
+use build_messages::{Outgoing, build_finishes, target_finishes};
 use ob_text::{NoMemory, Text};
 use std::alloc::Global;
 use std::collections::VecDeque;
@@ -29,7 +28,7 @@ pub(crate) fn end_build(
 ) -> Result<bool, NoMemory>
     requires setting { IsSetting at.now }
     requires sized { length tallies.now ≡ length at.now.documents }
-    ensures tells { OnOk result (Tells (ends_said at.now tallies.now) (map outgoing_said out.old.items) (map outgoing_said out.new.items)) }
+    ensures tells { OnOk result (TellsBehind (ends_said at.now tallies.now) (map outgoing_said out.old.items) (map outgoing_said out.new.items)) }
     ensures failed { IfOk result (λ failed. failed ≡ list_any has_errors tallies.now) }
     // A number of 64 bits counts the targets.
     ensures few { length at.now.targets.keys < 2 ^ 64 }
@@ -50,26 +49,26 @@ fn report_targets(
 ) -> Result<(), NoMemory>
     requires setting { IsSetting at.now }
     requires sized { length tallies.now ≡ length at.now.documents }
-    ensures { OnOk result (Tells (targets_reported at.now tallies.now 1 at.now.targets.keys) (map outgoing_said out.old.items) (map outgoing_said out.new.items)) }
+    ensures { OnOk result (TellsBehind (targets_reported at.now tallies.now 1 at.now.targets.keys) (map outgoing_said out.old.items) (map outgoing_said out.new.items)) }
 {
-    for place in 0..at.targets.len() {
-        out.push_back(report_target(at, tallies, place)?)?;
+    for index in 0..at.targets.len() {
+        out.push_back(report_target(at, tallies, index)?)?;
     }
     Ok(())
 }
 
 /// The target at this index among those of the build finishes, with its report.
-fn report_target(at: &Setting, tallies: &[Tally], place: usize) -> Result<Outgoing, NoMemory>
+fn report_target(at: &Setting, tallies: &[Tally], index: usize) -> Result<Outgoing, NoMemory>
     requires setting { IsSetting at.now }
     requires sized { length tallies.now ≡ length at.now.documents }
-    requires within { place < length at.now.targets.keys }
+    requires within { index < length at.now.targets.keys }
     ensures said { IfOk result (λ m. outgoing_said m
-        ≡ target_reported at.now tallies.now (place + 1) (slice_index at.now.targets.keys place)) }
+        ≡ target_reported at.now tallies.now (index + 1) (slice_index at.now.targets.keys index)) }
     ensures framed { IfOk result (λ m. IsFramed (outgoing_said m)) }
 {
     let _count = at.targets.len();
-    let number = place as u64 + 1;
-    let Some(target) = at.targets.get_index(place) else {
+    let number = index as u64 + 1;
+    let Some(target) = at.targets.get_index(index) else {
         unreachable!()
     };
     let space: &Workspace = &at.workspace;

@@ -5,19 +5,17 @@ ghost use Rattle.worker_pool.specs.Outcomes.{IsCheckOf};
 ghost use Rattle.build_checks.specs.Kept.{Extends};
 ghost use Rattle.build_checks.specs.Stand.{AreChecks, left_of, modules_of, settled_of, taken_of};
 ghost use Rattle.session_law.specs.Builds.{build_status};
-ghost use Rattle.session_build.specs.Going.{AreSound, Begins, FinishesOne, Goes, GoesBy, GoesOnBy, GoesThrough, IsAmong, IsJob, IsPlaceOf, IsSound, KeepsViews, NoneCanBeTaken, SettlesBy, StartsMore, TakesOut, all_left, numbers_of};
-ghost use Rattle.session_build.specs.Outgoing.{outgoing_said};
+ghost use Rattle.session_build.specs.Going.{AreSound, Begins, FinishesOne, Goes, GoesBy, GoesOnBy, GoesThrough, IsAmong, IsJob, IsJobIndex, IsSound, KeepsViews, NoneCanBeTaken, SettlesBy, StartsMore, TakesOut, all_left, numbers_of};
+ghost use Rattle.build_messages.specs.Outgoing.{outgoing_said};
 ghost use Rattle.session_build.specs.Setting.{IsSetting};
 ghost use Rattle.task_stream.specs.Showing.{shows};
 
 use crate::making::fact_by;
-use crate::outgoing::Outgoing;
-use crate::publishing::{copy_of, has_error, publish_one};
 use crate::setting::Setting;
 use crate::tally::{Tally, counted};
-use crate::tasks::{check_finishes, check_starts};
 use bsp_records::StatusCode;
 use build_checks::Checks;
+use build_messages::{Outgoing, check_finishes, check_starts, copy_of, has_error, publish_one};
 use check_cache::{Cache, Fact};
 use iface_key::Keys;
 use ob_text::{Name, NoMemory};
@@ -31,7 +29,7 @@ use worker_pool::Check;
 pub(crate) struct Job {
     pub pair: u32,
     /// The index of its document.
-    pub place: usize,
+    pub document_index: usize,
     /// The number of the document's target.
     pub target: u64,
     /// Its own number.
@@ -128,19 +126,19 @@ impl Going {
         requires among { Contains (map (λ document. document.pair) at.now.documents) pair }
         ensures { OnOk result (Begins at.now self.old self.new pair imports.items (map outgoing_said out.old.items) (map outgoing_said out.new.items)) }
     {
-        let place = at.place_of(pair);
+        let index = at.document_index(pair);
         let target = at.target_of(pair);
         let Some(number) = self.begun.checked_add(1) else {
             return Err(NoMemory);
         };
         let documents = at.documents.as_slice();
-        let document = &documents[place].key.document;
+        let document = &documents[index].key.document;
         let start = check_starts(at.alloc, at.number, number, target, document)?;
         out.push_back(start)?;
         self.begun = number;
         self.jobs.push(Job {
             pair,
-            place,
+            document_index: index,
             target,
             number,
             imports,
@@ -185,8 +183,8 @@ impl Going {
         ensures jobs { TakesOut self.old.jobs.items self.new.jobs.items result }
         ensures others { self.new ≡ record self.old { jobs = self.new.jobs } }
     {
-        let place = place_of(self.jobs.as_slice(), number);
-        self.jobs.remove(place)
+        let index = job_index(self.jobs.as_slice(), number);
+        self.jobs.remove(index)
     }
 
     /// The pair of the check with this number.
@@ -195,8 +193,8 @@ impl Going {
         ensures { IsAmong self.now.jobs.items number result }
     {
         let jobs = self.jobs.as_slice();
-        let place = place_of(jobs, number);
-        jobs[place].pair
+        let index = job_index(jobs, number);
+        jobs[index].pair
     }
 
     /// A check that isn't among the others finishes with this fact, and its document is settled.
@@ -252,24 +250,24 @@ impl Going {
         requires sized { length self.old.tallies.items ≡ length at.now.documents }
         ensures { OnOk result (SettlesBy at.now self.old self.new pair begun fact.now keys.old keys.new (shows shown.old) (shows shown.new) (map outgoing_said out.old.items) (map outgoing_said out.new.items)) }
     {
-        let place = at.place_of(pair);
+        let index = at.document_index(pair);
         let checked = fact.checked();
         self.checks.settle(pair, &checked.view, keys)?;
-        self.tallies[place] = counted(begun, checked.list.as_slice());
+        self.tallies[index] = counted(begun, checked.list.as_slice());
         let list = copy_of(at.alloc, checked.list.as_slice())?;
         let documents = at.documents.as_slice();
-        publish_one(shown, &documents[place], &at.origin, list, out)?;
+        publish_one(shown, &documents[index], &at.origin, list, out)?;
         Ok(())
     }
 }
 
-/// The place of the check with this number.
-fn place_of(jobs: &[Job], number: u64) -> usize
+/// The index of the check with this number.
+fn job_index(jobs: &[Job], number: u64) -> usize
     requires { Contains (numbers_of jobs.now) number }
-    ensures { IsPlaceOf jobs.now number result }
+    ensures { IsJobIndex jobs.now number result }
 {
     match jobs.iter().position(|job| job.number == number) {
-        Some(place) => place,
+        Some(index) => index,
         None => unreachable!(),
     }
 }

@@ -6,7 +6,7 @@ ghost use Rattle.oberon_module.specs.Views.{plain_views};
 ghost use Rattle.oberon_rules.specs.Local.{view_in};
 ghost use Rattle.session_build.specs.Going.{IsJob};
 ghost use Rattle.session_build.specs.declared.late.Late.{Late};
-ghost use Rattle.session_build.specs.Late.{AddsLate, AddsLateOf, HasKept, IsLateJob, IsPlaceIn, IsSameCheck, ShowsAs, TakesLate};
+ghost use Rattle.session_build.specs.Late.{AddsLate, AddsLateOf, HasKept, IsLateIndex, IsLateJob, IsSameCheck, ShowsAs, TakesLate};
 ghost use Rattle.worker_pool.specs.Jobs.{plain_check};
 ghost use Rattle.worker_pool.specs.Outcomes.{IsCheckOf};
 
@@ -141,17 +141,17 @@ fn make_room(late: &mut VecDeque<Late>)
 fn take_late(late: &mut VecDeque<Late>, number: u64) -> Option<Late>
     ensures { TakesLate late.old.items number result late.new.items }
 {
-    let place = place_in(late, number)?;
-    late.remove(place)
+    let index = late_index(late, number)?;
+    late.remove(index)
 }
 
-/// The place of the one whose job has this number.
-fn place_in(late: &VecDeque<Late>, number: u64) -> Option<usize>
-    ensures { IsPlaceIn late.now.items number result }
+/// The index of the one whose job has this number.
+fn late_index(late: &VecDeque<Late>, number: u64) -> Option<usize>
+    ensures { IsLateIndex late.now.items number result }
 {
-    for place in 0..late.len() {
-        if late[place].number == number {
-            return Some(place);
+    for index in 0..late.len() {
+        if late[index].number == number {
+            return Some(index);
         }
     }
     None

@@ -43,18 +43,18 @@ fn beside(
     ensures same { IfOk result (λ own. names_of imports.now ≡ names.now → own.items ≡ imports.now) }
 {
     let mut own = Vec::new(alloc);
-    for place in 0..names.len() {
-        let name = names[place].copy(alloc)?;
-        own.push((name, number_at(imports, place)))?;
+    for index in 0..names.len() {
+        let name = names[index].copy(alloc)?;
+        own.push((name, number_at(imports, index)))?;
     }
     Ok(own)
 }
 
-/// The number that stands at a place, or 0 where none does.
-fn number_at(imports: &[(Name, u64)], place: usize) -> u64
-    ensures { (import : List ℕ × ℕ) → slice_get imports.now place ≡ Some import → result ≡ import.1 }
+/// The number that stands at an index, or 0 where none does.
+fn number_at(imports: &[(Name, u64)], index: usize) -> u64
+    ensures { (import : List ℕ × ℕ) → slice_get imports.now index ≡ Some import → result ≡ import.1 }
 {
-    match imports.get(place) {
+    match imports.get(index) {
         Some(import) => import.1,
         None => 0,
     }

@@ -41,13 +41,13 @@ impl Drop for Setting {
 
 impl Setting {
     /// The index of a pair's document.
-    pub fn place_of(&self, pair: u32) -> usize
+    pub fn document_index(&self, pair: u32) -> usize
         requires setting { IsSetting self.now }
         requires among { Contains (map (λ document. document.pair) self.now.documents) pair }
         ensures { slice_get self.now.documents result ≡ Some (build_document self.now.workspace.value pair) }
     {
         match self.pairs.get_index_of(&pair) {
-            Some(place) => place,
+            Some(index) => index,
             None => unreachable!(),
         }
     }

@@ -53,9 +53,9 @@ pub(crate) fn tally_of(
     ensures { IfOk result (λ sum. sum ≡ tally_of id.now documents.now tallies.now) }
 {
     let mut sum = NOTHING;
-    for place in 0..documents.len() {
-        if documents[place].key.target == *id {
-            sum = both(sum, tallies[place])?;
+    for index in 0..documents.len() {
+        if documents[index].key.target == *id {
+            sum = both(sum, tallies[index])?;
         }
     }
     Ok(sum)

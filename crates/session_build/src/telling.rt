@@ -1,11 +1,10 @@
 ghost use Rattle.std.specs.Prelude.{map, OnOk};
-ghost use Rattle.session_build.specs.Outgoing.{outgoing_said};
+ghost use Rattle.build_messages.specs.Outgoing.{outgoing_said};
 ghost use Rattle.session_build.specs.Setting.{IsSetting};
 ghost use Rattle.session_build.specs.Telling.{TellsStarts};
 
-use crate::outgoing::Outgoing;
 use crate::setting::Setting;
-use crate::tasks::{build_starts, target_starts};
+use build_messages::{Outgoing, build_starts, target_starts};
 use ob_text::NoMemory;
 use std::collections::VecDeque;
 use target_graph::Workspace;

@@ -2,19 +2,19 @@
 use Rattle.std.proofs.Common.{◌≡◌, ◌≢◌, ◌++◌, ℕ, List, [], ◌∷◌, map, false, Option, Some, None, IfSome, option_to_list, refl, ap, sym, ◌∙◌, subst}
 use Rattle.std.proofs.lemmas.List.Elements.{All-map, All-nil}
 use Rattle.rpc_peer.specs.Said.{Said}
-use Rattle.session_build.specs.Outgoing.{outgoing_said}
-use Rattle.session_build.specs.declared.outgoing.Outgoing.{Outgoing}
+use Rattle.build_messages.specs.Outgoing.{outgoing_said}
+use Rattle.build_messages.specs.declared.outgoing.Outgoing.{Outgoing}
 use Rattle.session_law.specs.IsFramed.{IsFramed}
 use Rattle.session_core.proofs.EndMarks.{ended_marked, marked_none}
 use Rattle.session_core.specs.Settled.{IsSettled}
 use Rattle.session_core.specs.Standing.{HeadFits, HeadGoesOn, IsAlive, IsQuiet, IsUpHead, IsUpPhase, PhaseFits, Recalls, StandsFor, status_of}
-use Rattle.session_core.specs.State.{asked_of, open_with, plain_of, rest_of, said_out, waiting_of}
+use Rattle.session_core.specs.State.{asked_of, plain_of, rest_of, said_out, waiting_of}
 use Rattle.session_core.specs.Taking.{WaitsBehind as WaitsBehindHead}
 use Rattle.session_core.specs.declared.head.Head.{Head}
 use Rattle.session_core.specs.declared.head.Phase.{Phase}
 use Rattle.session_core.specs.declared.head.Phase.TheVariants as phases
 use Rattle.session_core.specs.declared.session.Core.{Core}
-use Rattle.session_core.specs.declared.verdicts.Queued.{Queued}
+use Rattle.session_verdicts.specs.declared.verdicts.Queued.{Queued}
 use Rattle.session_law.proofs.OpenLaws.{GoOn, GoesOn, unmarked}
 use Rattle.session_law.proofs.RequestLaws.{IsUnmarked}
 use Rattle.session_law.proofs.TakeLaws.{HasStarted, IsUp, WaitsBehind, caught_up}
@@ -22,12 +22,16 @@ use Rattle.session_law.specs.AnswersAll.{IsSettled as AnswersAll}
 use Rattle.session_law.specs.AnswersAtOnce.{IsCaughtUp}
 use Rattle.session_law.specs.Course.{Course, Given, Stage, starts, known, begins, checked}
 use Rattle.session_law.specs.Lawful.{EachAllowed, Lawful}
-use Rattle.session_law.specs.Open.{First, IsFirst, Mid, none}
+use Rattle.session_law.specs.Open.{First, IsFirst, Mid, none, Open}
 use Rattle.session_law.specs.Order.{Event, onto, write}
 use Rattle.session_law.specs.Past.{Now, after, status_after}
 use Rattle.session_law.specs.Open.{Plain}
 use Rattle.session_law.specs.Requests.{Asked}
 use Rattle.session_queue.specs.declared.waiting.Waiting.{Waiting}
+
+-- what is open where this is at the head, and nothing is answered now
+abbrev pub open_with : Core → First → Open
+open_with core first = record { first = first; waiting = waiting_of core; last = []; nulls = [] }
 
 -- what is allowed with more messages written is allowed before them
 before : (messages : List Said) (order : List Event) → EachAllowed (onto messages order) → EachAllowed order

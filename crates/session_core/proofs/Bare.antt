@@ -5,8 +5,8 @@ use Rattle.std.specs.List.{All}
 use Rattle.std.proofs.lemmas.List.Elements.{All-append, All-cons, All-nil}
 use Rattle.std.proofs.lemmas.Result.{on_ok_weaker}
 use Rattle.rpc_peer.specs.Said.{Said}
-use Rattle.session_build.specs.Outgoing.{outgoing_said}
-use Rattle.session_build.specs.declared.outgoing.Outgoing.{Outgoing}
+use Rattle.build_messages.specs.Outgoing.{outgoing_said}
+use Rattle.build_messages.specs.declared.outgoing.Outgoing.{Outgoing}
 use Rattle.session_core.specs.Moving.{StaysBare}
 use Rattle.session_core.specs.Standing.{IsQuiet}
 use Rattle.session_core.specs.State.{said_out}

@@ -8,21 +8,21 @@ use Rattle.rpc_peer.specs.Said.{IsId, Said}
 use Rattle.session_build.specs.AtWork.{IsAtWork, IsBegun, IsWith}
 use Rattle.session_build.specs.Building.{IsBuilt}
 use Rattle.session_build.specs.Documents.{requested}
-use Rattle.session_build.specs.Outgoing.{outgoing_said}
+use Rattle.build_messages.specs.Outgoing.{outgoing_said}
 use Rattle.session_build.specs.Remembering.{Remembers}
 use Rattle.session_build.specs.declared.building.Went.{Went}
-use Rattle.session_build.specs.declared.outgoing.Outgoing.{Outgoing}
+use Rattle.build_messages.specs.declared.outgoing.Outgoing.{Outgoing}
 use Rattle.session_build.specs.declared.building.Build.{Build}
 use Rattle.session_build.specs.declared.building.Remains.{Remains}
 use Rattle.session_build.specs.declared.building.Went.TheVariants.{On, Ended}
 use Rattle.session_core.proofs.Built.{ends_on, tells_on}
-use Rattle.session_core.proofs.Framing.{framed_build}
+use Rattle.session_verdicts.proofs.Framing.{framed_build}
 use Rattle.session_core.proofs.Handed.{owed_building, some_same, wants_building}
 use Rattle.session_core.specs.Acting.{Acts}
 use Rattle.session_core.specs.Building.{BeginsBy, request_for}
 use Rattle.session_core.specs.Handing.{HasWent, built_head}
 use Rattle.session_core.specs.Moving.{IsUnmarked, with_first}
-use Rattle.session_core.specs.Plans.{Plan, build_in}
+use Rattle.session_verdicts.specs.Plans.{Plan, build_in}
 use Rattle.session_core.specs.Settled.{IsPlannedIn, PhaseWants}
 use Rattle.session_core.specs.Standing.{HeadFits, IsQuiet, Recalls, RemembersIn, Whole}
 use Rattle.session_core.specs.State.{plain_of, said_out, waiting_of}
@@ -34,7 +34,7 @@ use Rattle.session_law.proofs.MidLaws.{mid_works}
 use Rattle.session_core.proofs.Moving.{onto-push}
 use Rattle.session_law.proofs.OpenLaws.{GoOn}
 use Rattle.session_law.proofs.WrittenLaws.{all_noticed}
-use Rattle.session_law.specs.Builds.{build_answer, build_said, table_behind}
+use Rattle.session_law.specs.Builds.{build_said, table_behind}
 use Rattle.session_law.specs.IsFramed.{IsFramed}
 use Rattle.session_law.specs.Course.{AreGiven, Given, Tells}
 use Rattle.session_law.specs.Lawful.{AreHeld}
@@ -45,6 +45,7 @@ use Rattle.session_law.specs.Past.{Now, after}
 use Rattle.session_law.specs.Requests.{Active}
 use Rattle.target_graph.specs.Workspace.{Space}
 use Rattle.task_stream.specs.Showing.{shows}
+use Rattle.session_law.proofs.WorkLaws.{build_answer}
 
 module _ (old new : Core) (head : Head) (is : old.head ≡ Some head) (quiet : IsQuiet old) (goes : All IsUnmarked (waiting_of old))
     (handed : Option Entries) (paths : List (List ℕ)) (held : IfSome handed (AreHeld paths)) (plan : Plan) (phase : head.phase ≡ phases.Planned plan) (planned : IsPlannedIn old.workspace plan)

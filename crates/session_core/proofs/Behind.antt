@@ -4,14 +4,14 @@ use Rattle.std.proofs.lemmas.List.{map-append}
 use Rattle.std.proofs.lemmas.List.Elements.{All-append, All-cons, All-nil}
 use Rattle.rpc_peer.specs.Said.{IsId}
 use Rattle.rpc_peer.specs.declared.message.Id.{Id}
-use Rattle.session_core.specs.Judging.{HasQueuedTexts, queued_call}
+use Rattle.session_verdicts.specs.Judging.{HasQueuedTexts, queued_call}
 use Rattle.session_core.specs.Moving.{HasWaitingTexts, IsUnmarked}
 use Rattle.session_core.specs.Standing.{HeadFits, Recalls, Whole}
 use Rattle.session_core.specs.State.{asked_of, plain_of, said_out, waiting_of}
 use Rattle.session_core.specs.declared.head.Head.{Head}
 use Rattle.session_core.specs.declared.head.Phase.TheVariants as phases
 use Rattle.session_core.specs.declared.session.Core.{Core}
-use Rattle.session_core.specs.declared.verdicts.Queued.{Queued}
+use Rattle.session_verdicts.specs.declared.verdicts.Queued.{Queued}
 use Rattle.session_law.proofs.MidLaws.{mid_behind, mid_first}
 use Rattle.session_law.specs.Methods.{asking, queued}
 use Rattle.session_law.specs.Open.{Mid, asking_for, none, owing}

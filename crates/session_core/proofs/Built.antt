@@ -5,13 +5,14 @@ use Rattle.rpc_peer.specs.Said.{Said}
 use Rattle.session_law.proofs.MidLaws.{mid_answers, mid_tells}
 use Rattle.session_law.proofs.OpenLaws.{GoOn}
 use Rattle.session_law.proofs.WrittenLaws.{IsNotice, PublishesOf, all_noticed}
-use Rattle.session_law.specs.Builds.{Shows, build_answer, table_behind}
+use Rattle.session_law.specs.Builds.{Shows, table_behind}
 use Rattle.session_law.specs.Course.{Given, HasEnded, Tells}
 use Rattle.session_law.specs.History.{Told}
 use Rattle.session_law.specs.IsFramed.{IsFramed}
 use Rattle.session_law.specs.Open.{Mid, Open, Plain, none, working}
 use Rattle.session_law.specs.Order.{Event, onto, write}
 use Rattle.session_law.specs.Past.{Now, after}
+use Rattle.session_law.proofs.WorkLaws.{build_answer}
 
 -- two tables are the same that show the same
 same_table : (a b : Table) → ((document target : List ℕ) → a document target ≡ b document target) → a ≡ b

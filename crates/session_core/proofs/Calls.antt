@@ -2,9 +2,9 @@
 use Rattle.std.proofs.Common.{rules, map, ◌≡◌, ◌∷◌, [], ◌<◌, ◌+◌, ℕ, List, Bool, false, Option, Some, None, Result, Ok, Err, inl, inr, refl, sym, ◌∙◌, subst, arith, true≢false}
 use Rattle.std.specs.Prelude.{OnErr, OnOk, is_err}
 use Rattle.std.proofs.lemmas.List.Elements.{All-nil}
-use Rattle.session_build.specs.Outgoing.{outgoing_said}
+use Rattle.build_messages.specs.Outgoing.{outgoing_said}
 use Rattle.session_build.specs.Remembering.{IsEmpty}
-use Rattle.session_build.specs.declared.outgoing.Outgoing.{Outgoing}
+use Rattle.build_messages.specs.declared.outgoing.Outgoing.{Outgoing}
 use Rattle.session_core.proofs.Giving.{unbuilt_any, unbuilt_awaits}
 use Rattle.session_core.proofs.Settling.{fits_on}
 use Rattle.session_core.specs.Acting.{Acts, ActsInVain}
@@ -15,7 +15,7 @@ use Rattle.session_core.specs.declared.head.Head.{Head}
 use Rattle.session_core.specs.declared.head.Phase.{Phase}
 use Rattle.session_core.specs.declared.head.Phase.TheVariants as phases
 use Rattle.session_core.specs.declared.session.Core.{Core}
-use Rattle.session_core.specs.declared.verdicts.Queued.{Queued}
+use Rattle.session_verdicts.specs.declared.verdicts.Queued.{Queued}
 use Rattle.session_law.specs.Lawful.{EachAllowed}
 use Rattle.session_law.specs.Open.{IsOpen, IsWaiting, Mid, none}
 use Rattle.session_law.specs.Order.{Event, onto}

@@ -8,7 +8,7 @@ use Rattle.session_build.specs.AtWork.{HasCancelled, IsAtWork, told_by}
 use Rattle.session_build.specs.Remembering.{Remembers}
 use Rattle.session_build.specs.declared.building.Build.{Build}
 use Rattle.session_build.specs.declared.kept.Kept.{Kept}
-use Rattle.session_core.proofs.Framing.{framed_cancelled}
+use Rattle.session_verdicts.proofs.Framing.{framed_cancelled}
 use Rattle.session_core.proofs.Moving.{onto-push}
 use Rattle.session_core.specs.Standing.{MidOf, Recalls, RemembersIn}
 use Rattle.session_core.specs.State.{plain_of, said_out}

@@ -8,16 +8,16 @@ use Rattle.json_shape.specs.Shapes.{IsTextWithin}
 use Rattle.rpc_peer.specs.Said.{IsId, Said}
 use Rattle.session_build.specs.AtWork.{IsAtWork, IsWith, Rests, Runs}
 use Rattle.session_build.specs.Building.{IsBuilt}
-use Rattle.session_build.specs.Outgoing.{outgoing_said}
+use Rattle.build_messages.specs.Outgoing.{outgoing_said}
 use Rattle.session_build.specs.Remembering.{Remembers}
 use Rattle.session_build.specs.declared.building.Build.{Build}
 use Rattle.session_build.specs.declared.building.Went.{Went}
 use Rattle.session_build.specs.declared.building.Remains.{Remains}
 use Rattle.session_build.specs.declared.building.Went.TheVariants.{On, Ended}
-use Rattle.session_build.specs.declared.outgoing.Outgoing.{Outgoing}
+use Rattle.build_messages.specs.declared.outgoing.Outgoing.{Outgoing}
 use Rattle.session_build.proofs.RestLaws.{work_is}
 use Rattle.session_core.proofs.Built.{ends_on, tells_on}
-use Rattle.session_core.proofs.Framing.{framed_build}
+use Rattle.session_verdicts.proofs.Framing.{framed_build}
 use Rattle.session_core.proofs.Moving.{onto-push}
 use Rattle.session_core.specs.Building.{GoesOnBy, TookBuild}
 use Rattle.session_core.specs.Handing.{HasWent, built_head}
@@ -31,9 +31,9 @@ use Rattle.session_core.specs.declared.jobs.Awaiting.{Awaiting}
 use Rattle.session_core.specs.declared.session.Core.{Core}
 use Rattle.session_law.proofs.CoursePublishes.{course_publishes, ended_publishes}
 use Rattle.session_law.proofs.OpenLaws.{GoOn}
-use Rattle.session_law.proofs.WorkLaws.{first_so}
+use Rattle.session_law.proofs.WorkLaws.{first_so, build_answer}
 use Rattle.session_law.proofs.WrittenLaws.{all_noticed}
-use Rattle.session_law.specs.Builds.{build_answer, build_said, table_behind}
+use Rattle.session_law.specs.Builds.{build_said, table_behind}
 use Rattle.session_law.specs.Course.{Given, Tells}
 use Rattle.session_law.specs.IsFramed.{IsFramed}
 use Rattle.session_law.specs.Open.{IsFirst, IsOpen, Mid, Open, none, working}

@@ -12,7 +12,7 @@ use Rattle.session_core.proofs.Continued.{awaiting_head}
 use Rattle.session_core.specs.Building.{GoesOnBy}
 use Rattle.session_core.specs.Handing.{HasWent, built_head}
 use Rattle.session_core.specs.Moving.{KeepsJobs}
-use Rattle.session_core.specs.Settled.{AreNumbered, Awaits, AwaitsHead, AwaitsJob, AwaitsPhase, HasBegun, HeadStays, HeadWants, IfBuilt, IfBuiltPhase, IsBack, IsJob, IsNeeded, IsSettled, IsSound, IsUnbuilt, IsWorkOf, NeedsNothing}
+use Rattle.session_core.specs.Settled.{AreNumbered, Awaits, AwaitsHead, AwaitsJob, AwaitsPhase, BuildStays, HasBegun, HeadStays, HeadWants, IfBuilt, IfBuiltPhase, IsBack, IsJob, IsNeeded, IsSettled, IsSound, IsUnbuilt, IsWorkOf, NeedsNothing}
 use Rattle.session_core.specs.Standing.{HeadRests, PhaseRests}
 use Rattle.session_core.specs.State.{Rest, rest_of}
 use Rattle.session_core.specs.declared.head.Head.{Head}
@@ -129,6 +129,31 @@ module _ (old went new : Core) (it : Awaiting) (number : ℕ) (is : old.head ≡
       behind (inl none) = absurd (unbuilt_awaits new.head new.jobs new.given n none awaits)
       behind (inr (b, on, is_built)) = of_build b on (subst (λ (h : Option Head). AwaitsHead h new.jobs new.given n) is_built awaits)
 
+  -- where the build stays at the head, what else was awaited is awaited still
+  pub still_awaited : BuildStays went.head new.head → (n : ℕ) → Awaits (rest_of old) n → n ≢ number → Awaits (rest_of new) n
+  still_awaited build_stays n awaits other = on by.went by.goes by.leaves
+    where
+      was : AwaitsJob old.jobs old.given n it.build
+      was = subst (λ (h : Option Head). AwaitsHead h old.jobs old.given n) is awaits
+
+      apart : suc was.0 ≢ it.check
+      apart is_check = let is_number = was.1 in other (omega (arith, at, some, is_number, is_check))
+
+      waits : (b : Build) → went.head ≡ Some (built_head it.id it.number b it.origin) → new.head ≡ Some (built_head it.id it.number b it.origin)
+      waits b is_built = by_stays build_stays
+        where
+          by_stays : BuildStays went.head new.head → new.head ≡ Some (built_head it.id it.number b it.origin)
+          by_stays (inl is_same) = is_same ∙ is_built
+          by_stays (inr none) = absurd (subst (λ (h : Option Head). IsUnbuilt h) is_built none)
+
+      on : (w : Went) → HasWent (record old { head = None; kept = went.kept; shown = went.shown }) went it.id it.number it.origin w by.told → Leaves it.build it.check w → Awaits (rest_of new) n
+      on (On b) so leaves =
+          let is_number : n ≡ new.jobs + was.0 = was.1 ∙ ap (λ j. j + was.0) (sym jobs_is) in
+          let is_given : n < new.given = subst (λ g. n < g) (sym given_is) was.2 in
+          let is_awaited : AwaitsJob new.jobs new.given n b = (was.0, is_number, is_given, was.3, leaves.others (suc was.0) was.3 was.4 apart) in
+          subst (λ (h : Option Head). AwaitsHead h new.jobs new.given n) (sym (waits b (ap (λ (c : Core). c.head) so.0))) is_awaited
+      on (Ended failed remains) so leaves = absurd (apart (leaves (suc was.0) was.3 was.4))
+
 -- The build at the head went on, so what is between two calls is so again.
 module _ (old went : Core) (it : Awaiting) (is : old.head ≡ Some (awaiting_head it)) (sound : IsSound (rest_of old)) (needs : NeedsNothing (rest_of old)) (work : CheckTree)
     (by : GoesOnBy (record old { head = None }) went it work) where
@@ -219,6 +244,15 @@ module _ (rest : Rest) (settled : IsSettled rest) (head : Head) (b : Build) (ori
             runs = subst (λ n. Runs b (suc n) runs.0) k_is runs.1;
             work = subst (λ n. IsWorkOf b (suc n) job.work) k_is work;
           }
+
+  -- and its outcome is awaited
+  pub job_awaited : rest.given - rest.jobs < begun_in b → Awaits (record rest { given = suc rest.given }) rest.given
+  job_awaited more =
+      let few = settled.sound.numbers in
+      let runs = number_runs more in
+      let is_awaited : AwaitsJob rest.jobs (suc rest.given) rest.given b = (rest.given - rest.jobs, omega (arith, few), omega arith, runs.0, runs.1) in
+      subst (λ (h : Option Head). AwaitsHead h rest.jobs (suc rest.given) rest.given) (sym is)
+      (subst (λ (p : Phase). AwaitsPhase p rest.jobs (suc rest.given) rest.given) (sym phase) is_awaited)
 
   -- where each job was given, none is needed
   pub all_given : begun_in b ≤ rest.given - rest.jobs → IfBuilt rest.head (λ b. rest.given ≡ rest.jobs + begun_in b)

@@ -4,12 +4,12 @@ use Rattle.std.specs.Prelude.{IfSome, unwrap_or}
 use Rattle.std.proofs.lemmas.List.Elements.{All-nil}
 use Rattle.ob_text.specs.Held.{Entries}
 use Rattle.rpc_peer.specs.declared.message.Id.{Id}
-use Rattle.session_build.specs.Outgoing.{outgoing_said}
-use Rattle.session_build.specs.declared.outgoing.Outgoing.{Outgoing}
+use Rattle.build_messages.specs.Outgoing.{outgoing_said}
+use Rattle.build_messages.specs.declared.outgoing.Outgoing.{Outgoing}
 use Rattle.session_core.specs.Acting.{Acts, ActsInVain}
-use Rattle.session_core.specs.Judging.{Fits, IsPlanIn}
+use Rattle.session_verdicts.specs.Judging.{Fits, IsPlanIn}
 use Rattle.session_core.specs.Moving.{IsOwedFirst, IsUnmarked, RunsOn, with_first}
-use Rattle.session_core.specs.Plans.{Plan, build_in}
+use Rattle.session_verdicts.specs.Plans.{Plan, build_in}
 use Rattle.session_core.proofs.Resting.{goes_on}
 use Rattle.session_core.specs.Settled.{HeadPlanFits, HeadWants, IsSettled, PhaseWants, PlanFits}
 use Rattle.session_core.specs.Standing.{HeadFits, IsPlanned, IsRereading, IsQuiet, MidOf, Moves, PhaseFits, Recalls, Whole}
@@ -18,9 +18,9 @@ use Rattle.session_core.specs.declared.head.Head.{Head}
 use Rattle.session_core.specs.declared.head.Phase.{Phase}
 use Rattle.session_core.specs.declared.head.Phase.TheVariants as phases
 use Rattle.session_core.specs.declared.session.Core.{Core}
-use Rattle.session_core.specs.declared.verdicts.Answer.TheVariants as answers
-use Rattle.session_core.specs.declared.verdicts.Queued.{Queued}
-use Rattle.session_core.specs.declared.verdicts.Reason.TheVariants as reasons
+use Rattle.session_verdicts.specs.declared.verdicts.Answer.TheVariants as answers
+use Rattle.session_verdicts.specs.declared.verdicts.Queued.{Queued}
+use Rattle.session_verdicts.specs.declared.verdicts.Reason.TheVariants as reasons
 use Rattle.session_law.proofs.MidLaws.{mid_handed}
 use Rattle.session_law.proofs.TakeLaws.{MayAsk}
 use Rattle.session_law.specs.Lawful.{AreHeld, EachAllowed}

@@ -7,11 +7,10 @@ pub mod Built
 pub mod Calls
 pub mod Cancelled
 pub mod Continued
+pub mod Draining
 pub mod EndMarks
-pub mod Framing
 pub mod Giving
 pub mod Handed
-pub mod Judged
 pub mod Late
 pub mod Moving
 pub mod Needing

@@ -7,17 +7,17 @@ use Rattle.serde_json.specs.View.{view}
 use Rattle.ob_text.specs.declared.held.Held.{Held}
 use Rattle.session_build.specs.Remembering.{Remembers}
 use Rattle.session_build.specs.declared.kept.Kept.{Kept}
-use Rattle.session_core.proofs.Framing.{framed_answer, framed_cancelled, framed_refused_cancelled}
+use Rattle.session_verdicts.proofs.Framing.{answer_to, framed_answer, framed_cancelled, framed_refused_cancelled}
 use Rattle.session_build.proofs.RememberLaws.{remembers_none}
-use Rattle.session_core.specs.Judging.{Fits, HasQueuedTexts, IsSaid, answer_to, answer_unread, queued_call, reason_code, reason_text}
+use Rattle.session_verdicts.specs.Judging.{Fits, HasQueuedTexts, IsSaid, answer_unread, queued_call, reason_code, reason_text}
 use Rattle.session_core.specs.Moving.{BesideHead, HeadRunsOn, IsAtOnce, IsOwedFirst, IsUnmarked, RunsOn}
 use Rattle.session_core.specs.Standing.{Moves, Recalls, RemembersIn}
 use Rattle.session_core.specs.State.{plain_of, said_out}
 use Rattle.session_core.specs.declared.session.Core.{Core}
-use Rattle.session_core.specs.declared.verdicts.Answer.{Answer}
-use Rattle.session_core.specs.declared.verdicts.Answer.TheVariants as answers
-use Rattle.session_core.specs.declared.verdicts.Queued.{Queued}
-use Rattle.session_core.specs.declared.verdicts.Queued.TheVariants as calls
+use Rattle.session_verdicts.specs.declared.verdicts.Answer.{Answer}
+use Rattle.session_verdicts.specs.declared.verdicts.Answer.TheVariants as answers
+use Rattle.session_verdicts.specs.declared.verdicts.Queued.{Queued}
+use Rattle.session_verdicts.specs.declared.verdicts.Queued.TheVariants as calls
 use Rattle.session_law.proofs.MidLaws.{mid_cancelled, mid_first_answered, mid_first_refused, mid_last_answered, mid_last_refused, mid_null}
 use Rattle.session_law.proofs.OpenLaws.{GoOn}
 use Rattle.session_law.specs.Builds.{cancelled_said}

@@ -11,7 +11,7 @@ use Rattle.serde_json.specs.View.{view}
 use Rattle.serde_json.specs.declared.value.Value.{Value}
 use Rattle.session_core.proofs.Requests.{no_mark}
 use Rattle.session_core.proofs.Taken.{by_note, has_id_of, whole_note}
-use Rattle.session_core.specs.Acting.{ActsOn, ActsOnInVain, IsReady}
+use Rattle.session_core.specs.Acting.{ActsOn, ActsOnInVain}
 use Rattle.session_core.specs.Marking.{marked, marked_all, marked_one}
 use Rattle.session_core.specs.Moving.{LosesAll, SettlesAll}
 use Rattle.session_core.specs.Standing.{Carries, Loses, Whole}
@@ -20,6 +20,7 @@ use Rattle.session_law.specs.Methods.{is_named}
 use Rattle.session_law.specs.Order.{Event, take}
 use Rattle.session_law.specs.Past.{exit_status}
 use Rattle.session_law.specs.Requests.{cancelled_id}
+use Rattle.session_core.proofs.Ready.{IsReady}
 
 -- ---- the id that a cancel names
 

@@ -4,24 +4,24 @@ use Rattle.std.proofs.lemmas.List.Elements.{All-cons, All-head, All-nil, All-tai
 use Rattle.rpc_peer.specs.declared.message.Id.{Id}
 use Rattle.rpc_peer.specs.Said.{Said}
 use Rattle.session_build.specs.AtWork.{IsAtWork}
-use Rattle.session_build.specs.Outgoing.{outgoing_said}
-use Rattle.session_build.specs.declared.outgoing.Outgoing.{Outgoing}
+use Rattle.build_messages.specs.Outgoing.{outgoing_said}
+use Rattle.build_messages.specs.declared.outgoing.Outgoing.{Outgoing}
 use Rattle.session_core.proofs.Moving.{says_null}
 use Rattle.session_core.proofs.Settling.{fits_on, runs_first}
-use Rattle.session_core.specs.Acting.{ActsInVain, IsReady}
-use Rattle.session_core.specs.Judging.{answer_unread}
+use Rattle.session_core.specs.Acting.{ActsInVain}
+use Rattle.session_verdicts.specs.Judging.{answer_unread}
 use Rattle.session_core.specs.Marking.{marked, marked_head}
 use Rattle.session_core.specs.Moving.{HasWaitingTexts, IsUnmarked, KeepsNotices, LosesAll, RunsOn, SettlesAll, with_first}
 use Rattle.session_law.specs.IsFramed.{IsFramed}
 use Rattle.session_law.specs.Lawful.{EachAllowed}
-use Rattle.session_core.specs.Standing.{GoesOn, HeadFits, HeadGoesOn, IsUpHead, MidOf, PhaseFits, Recalls, Whole}
+use Rattle.session_core.specs.Standing.{GoesOn, HeadFits, HeadGoesOn, IsUpHead, MidOf, PhaseFits, Recalls, Whole, IsQuiet}
 use Rattle.session_core.specs.State.{asked_of, plain_of, said_out, waiting_of}
 use Rattle.session_core.specs.Taking.{WaitsBehind}
 use Rattle.session_core.specs.declared.head.Head.{Head}
 use Rattle.session_core.specs.declared.head.Phase.{Phase}
 use Rattle.session_core.specs.declared.head.Phase.TheVariants as phases
 use Rattle.session_core.specs.declared.session.Core.{Core}
-use Rattle.session_core.specs.declared.verdicts.Queued.{Queued}
+use Rattle.session_verdicts.specs.declared.verdicts.Queued.{Queued}
 use Rattle.session_law.proofs.TakeLaws as law
 use Rattle.session_law.proofs.MidLaws.{Rests, mid_ended}
 use Rattle.session_law.specs.Course.{Course, Given, Stage, begins, checked, known, starts}
@@ -33,6 +33,14 @@ use Rattle.session_law.specs.declared.InputEnd.{InputEnd}
 use Rattle.session_queue.specs.Waiting as queues
 use Rattle.session_queue.specs.declared.waiting.Waiting.{Waiting}
 use Rattle.task_stream.specs.Showing.{shows}
+
+-- It wrote what it owed at once, it needs nothing of the tree, and no request is to be cancelled.
+pub record IsReady (core : Core) : Type 0 where
+  pub up : IsUpHead core.head
+  pub goes_on : GoesOn core
+  pub behind : WaitsBehind core.head core.queue
+  pub running : core.status ≡ None
+  pub quiet : IsQuiet core
 
 -- ---- a build that began told something
 

@@ -13,14 +13,14 @@ use Rattle.rpc_peer.specs.Said.{Said, IsId, result}
 use Rattle.rpc_peer.specs.declared.message.Id.{Id}
 use Rattle.rpc_peer.specs.declared.message.Message.{Message}
 use Rattle.serde_json.specs.Data.{null}
-use Rattle.session_build.specs.Outgoing.{outgoing_said}
+use Rattle.build_messages.specs.Outgoing.{outgoing_said}
 use Rattle.session_build.specs.Remembering.{Remembers}
-use Rattle.session_build.specs.declared.outgoing.Outgoing.{Outgoing}
-use Rattle.session_build.specs.declared.outgoing.Outgoing.TheVariants as waiting
+use Rattle.build_messages.specs.declared.outgoing.Outgoing.{Outgoing}
+use Rattle.build_messages.specs.declared.outgoing.Outgoing.TheVariants as waiting
 use Rattle.session_core.proofs.Cancelled.{onto-append}
-use Rattle.session_core.proofs.Framing.{framed_cleaned, framed_null}
+use Rattle.session_verdicts.proofs.Framing.{framed_cleaned, framed_null}
 use Rattle.session_core.proofs.Moving.{goes, onto-push, space_is}
-use Rattle.session_core.specs.Judging.{Fits}
+use Rattle.session_verdicts.specs.Judging.{Fits}
 use Rattle.session_core.specs.Moving.{IsOwedFirst, RunsOn}
 use Rattle.session_core.specs.Reloading as reload
 use Rattle.session_core.specs.Reloading.{Cleans, IsFresh, IsReread, ReloadsTo}
@@ -28,8 +28,8 @@ use Rattle.session_core.specs.Standing.{IsQuiet, MidOf, Moves, Recalls, Remember
 use Rattle.session_core.specs.State.{plain_of, rest_of, said_out}
 use Rattle.session_core.specs.declared.head.Head.{Head}
 use Rattle.session_core.specs.declared.session.Core.{Core}
-use Rattle.session_core.specs.declared.verdicts.Answer.TheVariants as answers
-use Rattle.session_core.specs.declared.verdicts.Reason.{Reason}
+use Rattle.session_verdicts.specs.declared.verdicts.Answer.TheVariants as answers
+use Rattle.session_verdicts.specs.declared.verdicts.Reason.{Reason}
 use Rattle.session_law.proofs.MidLaws.{mid_first_answered}
 use Rattle.session_law.proofs.ReloadLaws.{mid_reloads}
 use Rattle.session_law.specs.Builds.{table_behind}

@@ -12,11 +12,11 @@ use Rattle.serde_json.specs.View.{view}
 use Rattle.serde_json.specs.declared.value.Value.{Value}
 use Rattle.rpc_peer.specs.declared.message.Id.{Id}
 use Rattle.serde_json.specs.Data.{Data}
-use Rattle.session_core.proofs.Ready.{fits, mid, null_whole, open_now}
+use Rattle.session_core.proofs.Ready.{fits, mid, null_whole, open_now, IsReady}
 use Rattle.session_core.proofs.Settling.{fits_on, runs_first}
 use Rattle.session_core.proofs.Taken.{counted, taken_each, whole_again, whole_failure, whole_nothing, whole_request, whole_result}
-use Rattle.session_core.specs.Acting.{ActsOn, ActsOnInVain, IsReady, LosesAs, ServesAs, WaitsAsLast, WaitsInVain, is_head, is_open_in}
-use Rattle.session_core.specs.Judging.{Fits, answer_unread, closes}
+use Rattle.session_core.specs.Acting.{ActsOn, ActsOnInVain, LosesAs, ServesAs, WaitsAsLast, WaitsInVain, is_head, is_open_in}
+use Rattle.session_verdicts.specs.Judging.{Fits, answer_unread, closes}
 use Rattle.session_core.specs.Marking.{marked, marked_head}
 use Rattle.session_core.specs.Moving.{IsAtOnce, IsUnmarked, KeepsNotices, RunsOn, with_first}
 use Rattle.session_core.specs.Settled.{HasBegun, IsSettled}
@@ -27,11 +27,11 @@ use Rattle.session_core.specs.declared.head.Head.{Head}
 use Rattle.session_core.specs.declared.head.Phase.{Phase}
 use Rattle.session_core.specs.declared.head.Phase.TheVariants as phases
 use Rattle.session_core.specs.declared.session.Core.{Core}
-use Rattle.session_core.specs.declared.verdicts.Answer.{Answer}
-use Rattle.session_core.specs.declared.verdicts.Answer.TheVariants as answers
-use Rattle.session_core.specs.declared.verdicts.Queued.{Queued}
-use Rattle.session_build.specs.Outgoing.{outgoing_said}
-use Rattle.session_build.specs.declared.outgoing.Outgoing.{Outgoing}
+use Rattle.session_verdicts.specs.declared.verdicts.Answer.{Answer}
+use Rattle.session_verdicts.specs.declared.verdicts.Answer.TheVariants as answers
+use Rattle.session_verdicts.specs.declared.verdicts.Queued.{Queued}
+use Rattle.build_messages.specs.Outgoing.{outgoing_said}
+use Rattle.build_messages.specs.declared.outgoing.Outgoing.{Outgoing}
 use Rattle.session_law.specs.IsFramed.{IsFramed}
 use Rattle.session_law.specs.Lawful.{EachAllowed}
 use Rattle.bsp_records.specs.Requests.{method_named, request_in}

@@ -11,7 +11,7 @@ use Rattle.session_core.specs.Standing.{GoesOn, HeadGoesOn, HeadRests, IsUpHead}
 use Rattle.session_core.specs.State.{Rest, asked_of, rest_of}
 use Rattle.session_core.specs.declared.head.Head.{Head}
 use Rattle.session_core.specs.declared.session.Core.{Core}
-use Rattle.session_core.specs.declared.verdicts.Queued.{Queued}
+use Rattle.session_verdicts.specs.declared.verdicts.Queued.{Queued}
 use Rattle.session_core.proofs.Needing.{jobs_on}
 use Rattle.session_queue.specs.Waiting.{kept_of, marked_where}
 use Rattle.session_queue.specs.declared.waiting.Waiting.{Waiting}
@@ -38,7 +38,7 @@ keeping rest = record rest { queue = kept_of rest.queue }
 
 pub settles_rest : (a b c : Rest) → SettlesHeadRest a b → c ≡ record b { queue = kept_of b.queue } → SettlesRest a c
 settles_rest a b c (inl same) is = inl (is ∙ ap keeping same)
-settles_rest a b c (inr same) is = inr (is ∙ ap keeping same)
+settles_rest a b c (inr gone) is = inr (gone.0, is ∙ ap keeping gone.1)
 
 -- ---- all of them
 
@@ -52,6 +52,10 @@ no_head : (head : Option Head) → HeadGoesOn (marked_head (λ id. true) head) �
 no_head None goes = refl
 no_head (Some head) goes = absurd (true≢false (sym (or-true head.cancelled) ∙ goes))
 
+none_was : (head : Option Head) → marked_head (λ id. true) head ≡ None → head ≡ None
+none_was None gone = refl
+none_was (Some head) gone = absurd (cc)
+
 pub none_left : (old marked new : Core) → marked ≡ marked_all old → SettlesRest (rest_of marked) (rest_of new) → HeadGoesOn new.head → HasNone (rest_of old) (rest_of new)
 none_left old marked new are settles goes = by (subst (λ (core : Core). SettlesRest (rest_of core) (rest_of new)) are settles)
   where
@@ -59,8 +63,17 @@ none_left old marked new are settles goes = by (subst (λ (core : Core). Settles
     by (inl is) =
         let head : new.head ≡ marked_head (λ id. true) old.head = ap (λ (r : Rest). r.head) is in
         let gone = no_head old.head (subst HeadGoesOn head goes) in
-        record { drains = old.drains; is = is ∙ (λ i. record (rest_of old) { head = gone i; queue = none_kept old.queue i }) }
-    by (inr is) = record { drains = true; is = is ∙ (λ i. record (rest_of old) { head = None; queue = none_kept old.queue i; drains = true }) }
+        record {
+          stays = inl (inr (subst (λ (h : Option Head). IsUnbuilt h) (sym (none_was old.head gone)) tt), ap (λ (r : Rest). r.drains) is);
+          drains = old.drains;
+          is = is ∙ (λ i. record (rest_of old) { head = gone i; queue = none_kept old.queue i });
+        }
+    by (inr gone) =
+        record {
+          stays = inr (λ none. gone.0 (ap (λ (h : Option Head). marked_head (λ id. true) h) none), ap (λ (r : Rest). r.drains) gone.1);
+          drains = true;
+          is = gone.1 ∙ (λ i. record (rest_of old) { head = None; queue = none_kept old.queue i; drains = true });
+        }
 
 no_begun : (force : Option Space) (head : Option Head) (queue : List (Waiting Queued)) → HasBegun force head queue → HasBegun force None []
 no_begun None head queue begun = (tt, refl)
@@ -270,12 +283,12 @@ module _ (by : Id → Bool) (old : Core) (sound : IsSound (rest_of old)) where
   linked_marked new (inl is) =
       subst IsLinked (sym is)
       (record { begun = begun_marked old.workspace old.head sound.begun; plan = plan_marked old.head sound.plan; numbers = sound.numbers; checks = checks_marked old.head sound.checks; drains = λ drains. drains_marked old.head (sound.drains drains) })
-  linked_marked new (inr is) =
-      subst IsLinked (sym is) (record { begun = gone_begun old.workspace old.head sound.begun; plan = tt; numbers = sound.numbers; checks = tt; drains = λ drains. tt })
+  linked_marked new (inr gone) =
+      subst IsLinked (sym gone.1) (record { begun = gone_begun old.workspace old.head sound.begun; plan = tt; numbers = sound.numbers; checks = tt; drains = λ drains. tt })
 
   tree_marked : (new : Rest) → SettlesRest (rest_of (marked by old)) new → new.tree ≡ old.tree
   tree_marked new (inl is) = ap (λ (r : Rest). r.tree) is
-  tree_marked new (inr is) = ap (λ (r : Rest). r.tree) is
+  tree_marked new (inr gone) = ap (λ (r : Rest). r.tree) gone.1
 
 pub sound_marked : (by : Id → Bool) (old is_marked new : Core) → is_marked ≡ marked by old → IsSound (rest_of old) → old.tree ≡ None → SettlesRest (rest_of is_marked) (rest_of new)
     → HeadRests new.head → All HasWaitingTexts new.queue → GoesOn new → IsSound (rest_of new)

@@ -10,7 +10,7 @@ use Rattle.session_core.specs.State.{asked_of, said_out}
 use Rattle.session_core.specs.declared.head.Head.{Head}
 use Rattle.session_core.specs.declared.head.Phase.TheVariants as phases
 use Rattle.session_core.specs.declared.session.Core.{Core}
-use Rattle.session_core.specs.declared.verdicts.Queued.{Queued}
+use Rattle.session_verdicts.specs.declared.verdicts.Queued.{Queued}
 use Rattle.session_law.specs.Course.{Given}
 use Rattle.session_law.specs.Open.{Open, none, working}
 use Rattle.session_law.specs.Order.{Event, onto}

@@ -14,13 +14,13 @@ use Rattle.task_stream.specs.Showing.{shows}
 use Rattle.task_stream.specs.declared.shown.Shown.{Shown}
 use Rattle.session_core.specs.State.{asked_of, said_out, waiting_of}
 use Rattle.session_core.specs.declared.session.Core.{Core}
-use Rattle.session_core.specs.declared.verdicts.Queued.{Queued}
+use Rattle.session_verdicts.specs.declared.verdicts.Queued.{Queued}
 use Rattle.session_law.proofs.OpenLaws.{all_left, all_right}
 use Rattle.session_law.specs.Lawful.{EachAllowed}
 use Rattle.session_law.specs.Open.{First, Open}
 use Rattle.session_law.specs.Order.{onto}
-use Rattle.session_build.specs.Outgoing.{outgoing_said}
-use Rattle.session_build.specs.declared.outgoing.Outgoing.{Outgoing}
+use Rattle.build_messages.specs.Outgoing.{outgoing_said}
+use Rattle.build_messages.specs.declared.outgoing.Outgoing.{Outgoing}
 use Rattle.session_law.specs.Requests.{Asked}
 use Rattle.session_queue.proofs.CallerLaws.{TakesMarked, split_marked}
 use Rattle.session_queue.specs.Waiting.{AreApart, first_marked, ids, without}

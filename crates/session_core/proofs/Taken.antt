@@ -5,9 +5,8 @@ use Rattle.rpc_peer.specs.OpenIds.{same_id}
 use Rattle.rpc_peer.specs.Said.{request, notification, result, failure}
 use Rattle.rpc_peer.specs.declared.message.Id.{Id}
 use Rattle.serde_json.specs.Data.{Data}
-use Rattle.session_core.proofs.Ready.{fits, fits_marked, marks, mid, onto_is, open_now, rests, waiting_marked}
+use Rattle.session_core.proofs.Ready.{fits, fits_marked, marks, mid, onto_is, open_now, rests, waiting_marked, IsReady}
 use Rattle.session_core.proofs.Settling.{fits_on}
-use Rattle.session_core.specs.Acting.{IsReady}
 use Rattle.session_core.specs.Marking.{marked}
 use Rattle.session_core.specs.Standing.{HeadFits, Recalls, Whole}
 use Rattle.session_core.specs.State.{plain_of, said_out, waiting_of}

@@ -4,9 +4,9 @@ use Rattle.std.specs.Prelude.{is_some}
 use Rattle.std.proofs.lemmas.List.Elements.{All-head, All-nil, All-tail}
 use Rattle.rpc_peer.specs.Said.{IsId}
 use Rattle.session_core.proofs.Moving.{recalls_same}
-use Rattle.session_core.specs.Judging.{Fits, IsCleaningOf, IsPlanOf, IsRereadOf, queued_call}
+use Rattle.session_verdicts.specs.Judging.{Fits, IsCleaningOf, IsPlanOf, IsRereadOf, queued_call}
 use Rattle.session_core.specs.Moving.{IsOwedFirst, IsUnmarked, RunsOn, with_first}
-use Rattle.session_core.specs.Plans.{Plan}
+use Rattle.session_verdicts.specs.Plans.{Plan}
 use Rattle.session_core.specs.Standing.{Carries, GoesOn, HeadFits, Loses, MidOf, Moves, Recalls}
 use Rattle.session_core.specs.State.{asked_of, plain_of, said_out, waiting_of}
 use Rattle.session_core.specs.Reloading.{Cleans}
@@ -14,9 +14,9 @@ use Rattle.session_core.specs.Taking.{HasTaken, IsTakenUp, Plans, Rereads}
 use Rattle.session_core.specs.declared.head.Head.{Head}
 use Rattle.session_core.specs.declared.head.Phase.TheVariants as phases
 use Rattle.session_core.specs.declared.session.Core.{Core}
-use Rattle.session_core.specs.declared.verdicts.Answer.TheVariants as answers
-use Rattle.session_core.specs.declared.verdicts.Queued.{Queued}
-use Rattle.session_core.specs.declared.verdicts.Reason.{Reason}
+use Rattle.session_verdicts.specs.declared.verdicts.Answer.TheVariants as answers
+use Rattle.session_verdicts.specs.declared.verdicts.Queued.{Queued}
+use Rattle.session_verdicts.specs.declared.verdicts.Reason.{Reason}
 use Rattle.session_law.proofs.MidLaws.{mid_up}
 use Rattle.session_law.specs.Lawful.{EachAllowed}
 use Rattle.session_law.specs.Methods.{Call, Found, Verdict, all_found, unknown_at, found_build, found_clean, found_from, taken_in, to_build, to_reload, to_clean}
@@ -24,8 +24,8 @@ use Rattle.session_law.specs.Open.{Mid, Open, Plain, none, owing}
 use Rattle.session_law.specs.Order.{Event, onto}
 use Rattle.session_law.specs.Past.{after}
 use Rattle.session_law.specs.Requests.{Asked}
-use Rattle.session_build.specs.Outgoing.{outgoing_said}
-use Rattle.session_build.specs.declared.outgoing.Outgoing.{Outgoing}
+use Rattle.build_messages.specs.Outgoing.{outgoing_said}
+use Rattle.build_messages.specs.declared.outgoing.Outgoing.{Outgoing}
 use Rattle.session_queue.specs.declared.waiting.Waiting.{Waiting}
 use Rattle.target_graph.specs.Workspace.{Space}
 

@@ -5,9 +5,8 @@ use Rattle.rpc_peer.specs.OpenIds.{same_id}
 use Rattle.rpc_peer.specs.Said.{Said}
 use Rattle.rpc_peer.specs.declared.message.Id.{Id}
 use Rattle.session_core.specs.Marking.{marked}
-use Rattle.session_core.specs.Standing.{GoesOn, IsQuiet, IsUpHead, Whole}
+use Rattle.session_core.specs.Standing.{Whole}
 use Rattle.session_core.specs.State.{said_out}
-use Rattle.session_core.specs.Taking.{WaitsBehind}
 use Rattle.session_core.specs.declared.head.Head.{Head}
 use Rattle.session_core.specs.declared.session.Core.{Core}
 use Rattle.session_law.specs.Lawful.{EachAllowed}
@@ -16,14 +15,6 @@ use Rattle.session_law.specs.Open.{asking_for}
 use Rattle.session_law.specs.Order.{Event, onto, take}
 use Rattle.session_law.specs.Requests.{is_closing}
 use Rattle.session_queue.specs.Waiting.{is_open}
-
--- It wrote what it owed at once, it needs nothing of the tree, and no request is to be cancelled.
-pub record IsReady (core : Core) : Type 0 where
-  pub up : IsUpHead core.head
-  pub goes_on : GoesOn core
-  pub behind : WaitsBehind core.head core.queue
-  pub running : core.status ≡ None
-  pub quiet : IsQuiet core
 
 -- it goes on behind the event with what it keeps
 abbrev pub Acts : Core → Core → Event → Type 0

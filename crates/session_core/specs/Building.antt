@@ -10,7 +10,7 @@ use Rattle.session_build.specs.declared.building.Build.{Build}
 use Rattle.session_build.specs.declared.building.BuildRequest.{BuildRequest}
 use Rattle.session_build.specs.declared.building.Went.{Went}
 use Rattle.session_core.specs.Handing.{HasWent}
-use Rattle.session_core.specs.Plans.{Plan}
+use Rattle.session_verdicts.specs.Plans.{Plan}
 use Rattle.session_core.specs.declared.head.Phase.TheVariants as phases
 use Rattle.session_core.specs.declared.jobs.Awaiting.{Awaiting}
 use Rattle.session_core.specs.declared.session.Core.{Core}

@@ -1,11 +1,9 @@
 pub mod Acting
 pub mod Building
 pub mod Handing
-pub mod Judging
 pub mod Marking
 pub mod Moving
 pub mod Opening
-pub mod Plans
 pub mod Reloading
 pub mod Settled
 pub mod Standing

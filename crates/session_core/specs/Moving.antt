@@ -6,11 +6,11 @@ use Rattle.rpc_peer.specs.declared.message.Id.{Id}
 use Rattle.session_build.specs.declared.building.Build.{Build}
 use Rattle.session_core.specs.declared.head.Head.{Head}
 use Rattle.session_core.specs.declared.head.Phase.TheVariants as phases
-use Rattle.session_core.specs.Judging.{HasQueuedTexts}
+use Rattle.session_verdicts.specs.Judging.{HasQueuedTexts}
 use Rattle.session_core.specs.Standing.{MidOf, Moves, Whole}
 use Rattle.session_core.specs.State.{said_out, waiting_of}
 use Rattle.session_core.specs.declared.session.Core.{Core}
-use Rattle.session_core.specs.declared.verdicts.Queued.{Queued}
+use Rattle.session_verdicts.specs.declared.verdicts.Queued.{Queued}
 use Rattle.session_law.specs.Lawful.{EachAllowed}
 use Rattle.session_law.specs.Order.{Event, onto}
 use Rattle.session_law.specs.Past.{after}

@@ -4,13 +4,13 @@ use Rattle.build_rules.specs.World.{handed_at}
 use Rattle.ob_text.specs.Held.{Entries}
 use Rattle.ob_text.specs.declared.held.Held.{Held}
 use Rattle.rpc_peer.specs.declared.message.Id.{Id}
-use Rattle.session_core.specs.Judging.{Fits}
+use Rattle.session_verdicts.specs.Judging.{Fits}
 use Rattle.session_core.specs.Moving.{RunsOn}
 use Rattle.session_core.specs.Standing.{MidOf, Moves}
 use Rattle.session_core.specs.State.{said_out}
 use Rattle.session_core.specs.declared.session.Core.{Core}
-use Rattle.session_core.specs.declared.verdicts.Answer.TheVariants as answers
-use Rattle.session_core.specs.declared.verdicts.Reason.{Reason}
+use Rattle.session_verdicts.specs.declared.verdicts.Answer.TheVariants as answers
+use Rattle.session_verdicts.specs.declared.verdicts.Reason.{Reason}
 use Rattle.session_law.specs.Methods.{Verdict, cleaning, reloading, rereading, workspace_path}
 use Rattle.session_law.specs.Open.{Open, none, owing}
 use Rattle.session_law.specs.Order.{Event, onto}

@@ -1,5 +1,5 @@
 -- What is so of a core between two calls: what it waits for, what it needs from outside, and which jobs are out.
-use Rattle.std.specs.Prelude.{◌≡◌, ◌≤◌, ◌<◌, ◌⊎◌, ◌+◌, ◌*◌, ◌^◌, ◌-◌, ℕ, suc, List, [], ◌∷◌, length, map, Bool, true, false, Option, Some, None, IfSome}
+use Rattle.std.specs.Prelude.{◌≡◌, ◌≢◌, ◌≤◌, ◌<◌, ◌⊎◌, ◌+◌, ◌*◌, ◌^◌, ◌-◌, ℕ, suc, List, [], ◌∷◌, length, map, Bool, true, false, Option, Some, None, IfSome}
 use Rattle.std.specs.List.{All}
 use Rattle.std.specs.Str.{bytes_eq}
 use Rattle.ob_text.specs.Once.{each_once}
@@ -8,8 +8,8 @@ use Rattle.rpc_peer.specs.declared.message.Id.{Id}
 use Rattle.session_build.specs.AtWork.{IsOwnWork, Runs, begun_in, left_in}
 use Rattle.session_build.specs.declared.building.Build.{Build}
 use Rattle.session_core.specs.Moving.{HasWaitingTexts}
-use Rattle.session_core.specs.Judging.{IsPlanIn}
-use Rattle.session_core.specs.Plans.{Plan}
+use Rattle.session_verdicts.specs.Judging.{IsPlanIn}
+use Rattle.session_verdicts.specs.Plans.{Plan}
 use Rattle.session_core.specs.Standing.{HeadGoesOn, HeadRests, IsUpHead}
 use Rattle.session_core.specs.State.{Rest, handed_of}
 use Rattle.session_core.specs.Taking.{WaitsBehind}
@@ -18,7 +18,7 @@ use Rattle.session_core.specs.declared.head.Phase.{Phase}
 use Rattle.session_core.specs.declared.head.Phase.TheVariants as phases
 use Rattle.session_core.specs.declared.needs.Need.{Need}
 use Rattle.session_core.specs.declared.needs.Need.TheVariants as needs
-use Rattle.session_core.specs.declared.verdicts.Queued.{Queued}
+use Rattle.session_verdicts.specs.declared.verdicts.Queued.{Queued}
 use Rattle.session_law.specs.Lawful.{AreHeld}
 use Rattle.session_law.specs.Methods.{workspace_path}
 use Rattle.session_queue.specs.Waiting.{kept_of}
@@ -104,6 +104,10 @@ Awaits rest number = AwaitsHead rest.head rest.jobs rest.given number
 abbrev pub IsUnbuilt : Option Head → Type 0
 IsUnbuilt head = IfBuilt head (λ b. ⊥)
 
+-- a build that waits for its checks stays at the head
+abbrev pub BuildStays : Option Head → Option Head → Type 0
+BuildStays old new = (new ≡ old) ⊎ IsUnbuilt old
+
 -- no other build waits for its checks
 abbrev pub HeadStays : Option Head → Option Head → Type 0
 HeadStays old new = (new ≡ old) ⊎ IsUnbuilt new
@@ -172,18 +176,29 @@ pub record NeedsNothing (rest : Rest) : Type 0 where
   pub drains : rest.drains ≡ false
   pub jobs : IfBuilt rest.head (λ b. rest.given ≡ rest.jobs + begun_in b)
 
+-- What was awaited is awaited still, or the jobs of its build are to be drained; and they are only where something was awaited
+-- that isn't any more. So they are as a build that waits for its checks is cancelled, and at no other time.
+pub record DrainsCancelled (old new : Rest) : Type 0 where
+  pub all : (number : ℕ) → Awaits old number → Awaits new number ⊎ (new.drains ≡ true)
+  pub none_else : new.drains ≡ true → (number : ℕ) × Awaits old number × ¬ (Awaits new number)
+
 -- ---- what steps leave
+
+-- Where a build that waits for its checks doesn't stay at the head, its jobs are to be drained.
+abbrev pub StaysOrDrains : Rest → Rest → Type 0
+StaysOrDrains old new = (BuildStays old.head new.head × (new.drains ≡ old.drains)) ⊎ ((old.head ≢ None) × (new.drains ≡ true))
 
 -- those that were to be cancelled are answered
 abbrev pub SettlesRest : Rest → Rest → Type 0
-SettlesRest old new = (new ≡ record old { queue = kept_of old.queue }) ⊎ (new ≡ record old { head = None; queue = kept_of old.queue; drains = true })
+SettlesRest old new = (new ≡ record old { queue = kept_of old.queue }) ⊎ ((old.head ≢ None) × (new ≡ record old { head = None; queue = kept_of old.queue; drains = true }))
 
 -- the head is answered, where it was to be cancelled
 abbrev pub SettlesHeadRest : Rest → Rest → Type 0
-SettlesHeadRest old new = (new ≡ old) ⊎ (new ≡ record old { head = None; drains = true })
+SettlesHeadRest old new = (new ≡ old) ⊎ ((old.head ≢ None) × (new ≡ record old { head = None; drains = true }))
 
 -- no request is open
 pub record HasNone (old new : Rest) : Type 0 where
+  pub stays : StaysOrDrains old new
   pub drains : Bool
   pub is : new ≡ record old { head = None; queue = []; drains = drains }
 
@@ -210,12 +225,12 @@ pub data TakesUpRest (old new : Rest) (id : Id) (number : ℕ) : Type 0 where
 
 -- ---- what is needed, and what that leaves
 
--- the next need is this
+-- the next need is this, and the outcome of a job is awaited then
 abbrev pub IsNeeded : Rest → Rest → Option Need → Type 0
 IsNeeded old new None = NeedsNothing old × (new ≡ old)
 IsNeeded old new (Some (needs.Tree paths)) = HeadWants old.head paths × (old.drains ≡ false) × (new ≡ record old { tree = None })
 IsNeeded old new (Some needs.Drain) = ((number : ℕ) → Awaits old number → ⊥) × (old.drains ≡ true) × (new ≡ record old { drains = false })
-IsNeeded old new (Some (needs.Job job)) = (job.number ≡ old.given) × (job.number < 2 ^ 64 - 1) × IsBack new (plain_job job) × (new ≡ record old { given = suc old.given })
+IsNeeded old new (Some (needs.Job job)) = (job.number ≡ old.given) × (job.number < 2 ^ 64 - 1) × IsBack new (plain_job job) × (new ≡ record old { given = suc old.given }) × Awaits new job.number
 
 -- the jobs of a build at the head begin with this number
 abbrev pub StartsAt : Rest → ℕ → Type 0

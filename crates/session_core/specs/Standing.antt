@@ -8,8 +8,8 @@ use Rattle.session_build.specs.AtWork.{IsAtWork, Rests}
 use Rattle.session_build.specs.Remembering.{IsEmpty, Remembers}
 use Rattle.session_build.specs.declared.building.Build.{Build}
 use Rattle.session_build.specs.declared.kept.Kept.{Kept}
-use Rattle.session_core.specs.Judging.{IsPlanIn}
-use Rattle.session_core.specs.Plans.{Plan, build_in}
+use Rattle.session_verdicts.specs.Judging.{IsPlanIn}
+use Rattle.session_verdicts.specs.Plans.{Plan, build_in}
 use Rattle.session_core.specs.State.{plain_of, said_out, waiting_of}
 use Rattle.session_core.specs.declared.head.Head.{Head}
 use Rattle.session_core.specs.declared.head.Phase.{Phase}

@@ -1,15 +1,15 @@
 -- What a core keeps of a session, in the words of the law.
-use Rattle.std.specs.Prelude.{ℕ, List, [], map, Bool, Option, option_map}
+use Rattle.std.specs.Prelude.{ℕ, List, map, Bool, Option, option_map}
 use Rattle.ob_text.specs.Held.{Entries}
 use Rattle.ob_text.specs.declared.held.Snapshot.{Snapshot}
 use Rattle.rpc_peer.specs.Said.{Said}
-use Rattle.session_build.specs.Outgoing.{outgoing_said}
-use Rattle.session_core.specs.Judging.{queued_call}
+use Rattle.build_messages.specs.Outgoing.{outgoing_said}
+use Rattle.session_verdicts.specs.Judging.{queued_call}
 use Rattle.session_core.specs.declared.head.Head.{Head}
 use Rattle.session_core.specs.declared.session.Core.{Core}
-use Rattle.session_core.specs.declared.verdicts.Queued.{Queued}
+use Rattle.session_verdicts.specs.declared.verdicts.Queued.{Queued}
 use Rattle.session_law.specs.Methods.{queued}
-use Rattle.session_law.specs.Open.{First, Open, Plain}
+use Rattle.session_law.specs.Open.{Plain}
 use Rattle.session_law.specs.Requests.{Asked}
 use Rattle.session_queue.specs.declared.waiting.Waiting.{Waiting}
 use Rattle.target_graph.specs.Workspace.{Space}
@@ -28,10 +28,6 @@ asked_of waiting = record { id = waiting.id; number = waiting.number; verdict = 
 
 abbrev pub waiting_of : Core → List Asked
 waiting_of core = map asked_of core.queue
-
--- what is open where this is at the head, and nothing is answered now
-abbrev pub open_with : Core → First → Open
-open_with core first = record { first = first; waiting = waiting_of core; last = []; nulls = [] }
 
 -- what was handed out, as the law has it
 abbrev pub handed_of : Option Snapshot → Option Entries

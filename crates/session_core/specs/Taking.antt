@@ -4,13 +4,13 @@ use Rattle.std.specs.Str.{bytes_eq}
 use Rattle.ob_text.specs.Once.{each_once}
 use Rattle.rpc_peer.specs.declared.message.Id.{Id}
 use Rattle.session_core.specs.Moving.{RunsOn}
-use Rattle.session_core.specs.Plans.{Plan}
+use Rattle.session_verdicts.specs.Plans.{Plan}
 use Rattle.session_core.specs.Standing.{HeadFits, MidOf}
 use Rattle.session_core.specs.State.{asked_of, said_out}
 use Rattle.session_core.specs.declared.head.Head.{Head}
 use Rattle.session_core.specs.declared.head.Phase.TheVariants as phases
 use Rattle.session_core.specs.declared.session.Core.{Core}
-use Rattle.session_core.specs.declared.verdicts.Queued.{Queued}
+use Rattle.session_verdicts.specs.declared.verdicts.Queued.{Queued}
 use Rattle.session_law.specs.Methods.{workspace_path}
 use Rattle.session_law.specs.Open.{First, Open, none}
 use Rattle.session_law.specs.Order.{Event, onto}

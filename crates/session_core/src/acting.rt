@@ -2,17 +2,17 @@ ghost use Rattle.std.specs.Prelude.{◌≡◌, suc, None, Ok, Err, OnOk, OnErr};
 ghost use Rattle.rpc_peer.specs.Said.{HasId, said};
 ghost use Rattle.session_core.specs.Acting.{Acts, ActsInVain, ActsOn, ActsOnInVain};
 ghost use Rattle.session_core.specs.Moving.{KeepsJobs, StaysBare};
-ghost use Rattle.session_core.specs.Settled.{HeadStays, IsAsking, IsSettled, NeedsNothing};
+ghost use Rattle.session_core.specs.Settled.{HeadStays, IsAsking, IsSettled, NeedsNothing, StaysOrDrains};
 ghost use Rattle.session_core.specs.Standing.{IsAlive, IsQuiet, IsUpHead};
 ghost use Rattle.session_core.specs.State.{rest_of};
 ghost use Rattle.session_law.specs.Order.{ends, take};
 ghost use Rattle.session_law.specs.Past.{end_status};
 
-use crate::answers::PARSE_ERROR;
 use crate::session::Core;
 use ob_text::NoMemory;
 use rpc_peer::{Message, Refusal, read_message};
 use session_law::InputEnd;
+use session_verdicts::PARSE_ERROR;
 
 impl Core {
     /// Takes the body of a frame.
@@ -28,6 +28,7 @@ impl Core {
         ensures settled { OnOk result (IsSettled (rest_of self.new)) }
         ensures asking { OnOk result (IsAsking (rest_of self.new)) }
         ensures stays { OnOk result (HeadStays self.old.head self.new.head) }
+        ensures drains { OnOk result (StaysOrDrains (rest_of self.old) (rest_of self.new)) }
         ensures jobs { KeepsJobs self.old self.new }
         ensures found { OnOk result (IsAlive self.old) }
     {
@@ -60,6 +61,7 @@ impl Core {
         ensures settled { OnOk result (IsSettled (rest_of self.new)) }
         ensures asking { OnOk result (IsAsking (rest_of self.new)) }
         ensures stays { OnOk result (HeadStays self.old.head self.new.head) }
+        ensures drains { OnOk result (StaysOrDrains (rest_of self.old) (rest_of self.new)) }
         ensures jobs { KeepsJobs self.old self.new }
     {
         match message {
@@ -101,6 +103,7 @@ impl Core {
         ensures settled { OnOk result (IsSettled (rest_of self.new)) }
         ensures asking { OnOk result (IsAsking (rest_of self.new)) }
         ensures stays { OnOk result (HeadStays self.old.head self.new.head) }
+        ensures drains { OnOk result (StaysOrDrains (rest_of self.old) (rest_of self.new)) }
         ensures idle { OnOk result (self.new.head ≡ None) }
         ensures jobs { KeepsJobs self.old self.new }
         ensures found { OnOk result (IsAlive self.old) }
@@ -124,6 +127,7 @@ impl Core {
         ensures settled { OnOk result (IsSettled (rest_of self.new)) }
         ensures tree { OnOk result (self.new.tree ≡ None) }
         ensures idle { OnOk result (self.new.head ≡ None) }
+        ensures drains { OnOk result (StaysOrDrains (rest_of self.old) (rest_of self.new)) }
         ensures jobs { KeepsJobs self.old self.new }
         ensures dead { self.new.dead ≡ self.old.dead }
     {

@@ -4,7 +4,7 @@ ghost use Rattle.bsp_records.specs.Limits.{origin_limit};
 ghost use Rattle.json_shape.specs.Shapes.{IsTextWithin};
 ghost use Rattle.ob_text.specs.Held.{IsReadable};
 ghost use Rattle.rpc_peer.specs.Said.{IsId};
-ghost use Rattle.session_build.specs.Outgoing.{outgoing_said};
+ghost use Rattle.build_messages.specs.Outgoing.{outgoing_said};
 ghost use Rattle.session_law.specs.Builds.{build_said};
 ghost use Rattle.session_core.specs.State.{said_out};
 ghost use Rattle.session_core.specs.Building.{BeginsBy, GoesOnBy};
@@ -16,14 +16,14 @@ ghost use Rattle.worker_pool.specs.Jobs.{plain_check};
 ghost use Rattle.worker_pool.specs.Outcomes.{IsCheckOf};
 ghost use Rattle.session_build.specs.AtWork.{Rests, Runs};
 
-use crate::answers::compiled;
 use crate::head::{Head, Phase};
 use crate::jobs::Awaiting;
-use crate::planned::Planned;
 use crate::session::Core;
+use build_messages::Outgoing;
 use ob_text::{NoMemory, Snapshot, Text};
 use rpc_peer::Id;
-use session_build::{Build, BuildRequest, Checked, Outgoing, Went};
+use session_build::{Build, BuildRequest, Checked, Went};
+use session_verdicts::{Planned, compiled};
 use std::alloc::Global;
 use std::collections::VecDeque;
 use worker_pool::Check;
@@ -46,6 +46,7 @@ impl Core {
         ensures queue { self.new.queue ≡ self.old.queue }
         ensures given { self.new.given ≡ self.old.given }
         ensures status { self.new.status ≡ self.old.status }
+        ensures drains { self.new.drains ≡ self.old.drains }
     {
         let Some(workspace) = &self.workspace else {
             unreachable!()
@@ -88,6 +89,7 @@ impl Core {
         ensures queue { self.new.queue ≡ self.old.queue }
         ensures given { self.new.given ≡ self.old.given }
         ensures status { self.new.status ≡ self.old.status }
+        ensures drains { self.new.drains ≡ self.old.drains }
     {
         let Awaiting {
             id,
@@ -124,6 +126,7 @@ impl Core {
         ensures queue { self.new.queue ≡ self.old.queue }
         ensures given { self.new.given ≡ self.old.given }
         ensures status { self.new.status ≡ self.old.status }
+        ensures drains { self.new.drains ≡ self.old.drains }
     {
         match went {
             Went::On(build) => self.wait_with(
@@ -150,6 +153,7 @@ impl Core {
         ensures queue { self.new.queue ≡ self.old.queue }
         ensures given { self.new.given ≡ self.old.given }
         ensures status { self.new.status ≡ self.old.status }
+        ensures drains { self.new.drains ≡ self.old.drains }
     {
         self.tell(told)?;
         self.head = Some(head);

@@ -8,8 +8,8 @@ ghost use Rattle.session_law.specs.Order.{hand};
 
 use crate::head::{Head, Phase};
 use crate::session::Core;
-use crate::verdicts::Reason;
 use ob_text::{NoMemory, Snapshot};
+use session_verdicts::Reason;
 
 impl Core {
     /// Takes the answer of the tree for the request at the head.
@@ -28,6 +28,7 @@ impl Core {
         ensures fewer { OnOk result (left_to_do (rest_of self.new) < left_to_do (rest_of self.old)) }
         ensures found { OnOk result (IsAlive self.old) }
         ensures status { self.new.status ≡ self.old.status }
+        ensures drains { self.new.drains ≡ self.old.drains }
     {
         if self.dead {
             return Err(NoMemory);
@@ -52,6 +53,7 @@ impl Core {
         ensures fewer { OnOk result (head_left self.new.head < head_left self.old.head) }
         ensures queue { self.new.queue ≡ self.old.queue }
         ensures status { self.new.status ≡ self.old.status }
+        ensures drains { self.new.drains ≡ self.old.drains }
     {
         let Some(head) = self.head.take() else {
             unreachable!()

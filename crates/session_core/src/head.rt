@@ -1,10 +1,10 @@
 ghost use Rattle.std.specs.Prelude.{◌≡◌};
 ghost use Rattle.session_core.specs.Acting.{is_head};
 
-use crate::planned::Planned;
 use ob_text::Text;
 use rpc_peer::Id;
 use session_build::Build;
+use session_verdicts::Planned;
 use target_graph::Root;
 
 /// The request at the head of the queue.

@@ -7,7 +7,7 @@ ghost use Rattle.serde_json.specs.View.{members_view, view};
 ghost use Rattle.session_core.specs.Acting.{ActsOn, ActsOnInVain};
 ghost use Rattle.session_core.specs.Marking.{marked_one};
 ghost use Rattle.session_core.specs.Moving.{KeepsJobs, StaysBare};
-ghost use Rattle.session_core.specs.Settled.{HeadStays, IsAsking, IsSettled, NeedsNothing};
+ghost use Rattle.session_core.specs.Settled.{HeadStays, IsAsking, IsSettled, NeedsNothing, StaysOrDrains};
 ghost use Rattle.session_core.specs.Standing.{Carries, IsQuiet, IsUpHead, Loses};
 ghost use Rattle.session_core.specs.State.{rest_of};
 ghost use Rattle.session_law.specs.Requests.{cancelled_id};
@@ -43,6 +43,7 @@ impl Core {
         ensures settled { OnOk result (IsSettled (rest_of self.new)) }
         ensures asking { OnOk result (IsAsking (rest_of self.new)) }
         ensures stays { OnOk result (HeadStays self.old.head self.new.head) }
+        ensures drains { OnOk result (StaysOrDrains (rest_of self.old) (rest_of self.new)) }
         ensures jobs { KeepsJobs self.old self.new }
     {
         self.taken = number;
@@ -69,6 +70,7 @@ impl Core {
         ensures settled { OnOk result (IsSettled (rest_of self.new)) }
         ensures asking { OnOk result (IsAsking (rest_of self.new)) }
         ensures stays { OnOk result (HeadStays self.old.head self.new.head) }
+        ensures drains { OnOk result (StaysOrDrains (rest_of self.old) (rest_of self.new)) }
         ensures jobs { KeepsJobs self.old self.new }
     {
         self.mark(id);

@@ -70,12 +70,15 @@ impl Core {
             → job.number ≢ outcome.job.number → IsBack (rest_of self.new) job) }
         ensures awaits { OnOk result ((number : ℕ) → Awaits (rest_of self.new) number
             → Awaits (rest_of self.old) number × (number ≢ outcome.job.number)) }
+        ensures others { OnOk result ((number : ℕ) → Awaits (rest_of self.old) number
+            → number ≢ outcome.job.number → Awaits (rest_of self.new) number) }
         ensures given { self.new.given ≡ self.old.given }
         ensures fewer { OnOk result (Awaits (rest_of self.old) outcome.job.number
             → left_to_do (rest_of self.new) < left_to_do (rest_of self.old)) }
         ensures no_more { OnOk result (left_to_do (rest_of self.new) ≤ left_to_do (rest_of self.old)) }
         ensures found { OnOk result (IsAlive self.old) }
         ensures status { self.new.status ≡ self.old.status }
+        ensures drains { self.new.drains ≡ self.old.drains }
     {
         if self.dead {
             return Err(NoMemory);

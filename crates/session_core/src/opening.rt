@@ -1,18 +1,17 @@
 ghost use Rattle.std.specs.Prelude.{◌≡◌, None, IfOk, OnOk, OnErr};
 ghost use Rattle.rpc_peer.specs.Said.{IsId};
-ghost use Rattle.session_core.specs.Judging.{Fits, IsSaid};
+ghost use Rattle.session_verdicts.specs.Judging.{Fits, IsSaid};
 ghost use Rattle.session_core.specs.Moving.{Beside, StaysBare};
 ghost use Rattle.session_core.specs.Opening.{Opens};
 ghost use Rattle.session_core.specs.State.{handed_of};
 ghost use Rattle.session_law.specs.Methods.{asking};
 ghost use Rattle.session_law.specs.Requests.{handed_over};
 
-use crate::judging::judge_workspace;
 use crate::needs::workspace_path;
 use crate::session::Core;
-use crate::verdicts::{Answer, Reason};
 use ob_text::{Held, NoMemory, Snapshot};
 use rpc_peer::Id;
+use session_verdicts::{Answer, Reason, judge_workspace};
 use std::alloc::Global;
 use target_graph::Root;
 

@@ -1,27 +1,25 @@
 ghost use Rattle.std.specs.Prelude.{◌≡◌, ◌<◌, [], Some, All, length, map, IfErr, IfOk, IsSome, OnOk, OnErr};
 ghost use Rattle.reload_messages.specs.Told.{HasTold};
 ghost use Rattle.session_build.specs.Cleaning.{HasReloaded};
-ghost use Rattle.session_build.specs.Outgoing.{outgoing_said};
+ghost use Rattle.build_messages.specs.Outgoing.{outgoing_said};
 ghost use Rattle.session_law.specs.Verdicts.{IsBare};
 ghost use Rattle.task_stream.specs.Showing.{shows};
 ghost use Rattle.rpc_peer.specs.Said.{IsId};
-ghost use Rattle.session_core.specs.Judging.{IsSaid};
+ghost use Rattle.session_verdicts.specs.Judging.{IsSaid};
 ghost use Rattle.session_core.specs.Moving.{StaysBare};
 ghost use Rattle.session_core.specs.Reloading.{Cleans, IsJudged, IsReread, Reloads, ReloadsTo};
 ghost use Rattle.session_core.specs.State.{handed_of};
-ghost use Rattle.session_core.specs.declared.verdicts.Answer.TheVariants as answers;
+ghost use Rattle.session_verdicts.specs.declared.verdicts.Answer.TheVariants as answers;
 ghost use Rattle.target_graph.specs.Workspace.{Space};
 
-use crate::answers::{cleaned, null_answer};
-use crate::force::InForce;
 use crate::needs::workspace_path;
 use crate::session::Core;
-use crate::verdicts::Reason;
+use build_messages::Outgoing;
 use ob_text::{Held, NoMemory, Snapshot};
 use reload_messages::tell_reload;
 use rpc_peer::Id;
-use session_build::Outgoing;
 use session_reload::part_pairs;
+use session_verdicts::{InForce, Reason, cleaned, null_answer};
 use std::collections::VecDeque;
 use target_graph::{Workspace, WorkspaceRefusal};
 

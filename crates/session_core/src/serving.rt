@@ -2,24 +2,23 @@ ghost use Rattle.std.specs.Prelude.{◌≡◌, ℕ, false, suc, None, Ok, OnOk, 
 ghost use Rattle.rpc_peer.specs.Said.{IsId, request};
 ghost use Rattle.serde_json.specs.View.{view};
 ghost use Rattle.session_core.specs.Acting.{ActsOn, ActsOnInVain, LosesAs, ServesAs, WaitsAsLast, WaitsInVain, is_open_in};
-ghost use Rattle.session_core.specs.Judging.{Fits, HasQueuedTexts, IsSaid, queued_call};
+ghost use Rattle.session_verdicts.specs.Judging.{Fits, HasQueuedTexts, IsSaid, queued_call};
 ghost use Rattle.session_core.specs.Moving.{BesideHead, IsAtOnce, KeepsJobs, LosesAll, QueueTexts, SettlesAll, StaysBare};
 ghost use Rattle.session_core.specs.Marking.{marked_all};
-ghost use Rattle.session_core.specs.Settled.{HasNone, HeadStays, IsAsking, IsSettled, NeedsNothing};
+ghost use Rattle.session_core.specs.Settled.{HasNone, HeadStays, IsAsking, IsSettled, NeedsNothing, StaysOrDrains};
 ghost use Rattle.session_core.specs.Standing.{GoesOn, IsQuiet, IsUpHead};
 ghost use Rattle.session_core.specs.State.{rest_of};
 ghost use Rattle.session_law.specs.Methods.{Verdict, asking, closing, queued};
 ghost use Rattle.session_queue.specs.Waiting.{is_open};
 
 use crate::head::{Head, Phase, is_of};
-use crate::judging::judge;
 use crate::needs::workspace_paths;
 use crate::session::Core;
-use crate::verdicts::{Answer, Owed, Queued};
 use ob_text::{NoMemory, Text};
 use rpc_peer::{INVALID_REQUEST, Id};
 use serde_json::Value;
 use session_queue::Waiting;
+use session_verdicts::{Answer, Owed, Queued, judge};
 use target_graph::Root;
 
 impl Core {
@@ -44,6 +43,7 @@ impl Core {
         ensures settled { OnOk result (IsSettled (rest_of self.new)) }
         ensures asking { OnOk result (IsAsking (rest_of self.new)) }
         ensures stays { OnOk result (HeadStays self.old.head self.new.head) }
+        ensures drains { OnOk result (StaysOrDrains (rest_of self.old) (rest_of self.new)) }
         ensures jobs { KeepsJobs self.old self.new }
     {
         self.taken = number;
@@ -85,6 +85,7 @@ impl Core {
         ensures settled { OnOk result (IsSettled (rest_of self.new)) }
         ensures asking { OnOk result (IsAsking (rest_of self.new)) }
         ensures stays { OnOk result (HeadStays self.old.head self.new.head) }
+        ensures drains { OnOk result (StaysOrDrains (rest_of self.old) (rest_of self.new)) }
         ensures jobs { KeepsJobs self.old self.new }
     {
         if answer.is_closing() {
@@ -106,6 +107,7 @@ impl Core {
         ensures settled { OnOk result (IsSettled (rest_of self.new)) }
         ensures tree { OnOk result (self.new.tree ≡ None) }
         ensures idle { OnOk result (self.new.head ≡ None) }
+        ensures drains { OnOk result (StaysOrDrains (rest_of self.old) (rest_of self.new)) }
         ensures jobs { KeepsJobs self.old self.new }
     {
         self.cancel_all()?;
@@ -139,6 +141,7 @@ impl Core {
         ensures settled { OnOk result (IsSettled (rest_of self.new)) }
         ensures asking { OnOk result (IsAsking (rest_of self.new)) }
         ensures stays { OnOk result (HeadStays self.old.head self.new.head) }
+        ensures drains { OnOk result (StaysOrDrains (rest_of self.old) (rest_of self.new)) }
         ensures jobs { KeepsJobs self.old self.new }
     {
         let paths = workspace_paths(self.alloc)?;
@@ -167,6 +170,7 @@ impl Core {
         ensures settled { OnOk result (IsSettled (rest_of self.new)) }
         ensures asking { OnOk result (IsAsking (rest_of self.new)) }
         ensures stays { OnOk result (HeadStays self.old.head self.new.head) }
+        ensures drains { OnOk result (StaysOrDrains (rest_of self.old) (rest_of self.new)) }
         ensures jobs { KeepsJobs self.old self.new }
     {
         self.wait(id, number, call)?;

@@ -1,13 +1,13 @@
 ghost use Rattle.std.specs.Prelude.{IfOk};
 
-use crate::force::InForce;
 use crate::head::Head;
 use crate::needs::Need;
-use crate::verdicts::Queued;
+use build_messages::Outgoing;
 use ob_text::{Items, NoMemory, Path, Snapshot};
-use session_build::{Kept, Outgoing, Remains};
+use session_build::{Kept, Remains};
 use session_law::InputEnd;
 use session_queue::Queue;
+use session_verdicts::{InForce, Queued};
 use std::alloc::Global;
 use std::collections::VecDeque;
 use task_stream::Shown;
@@ -72,8 +72,8 @@ impl Drop for Core {
 impl Core {
     ghost use Rattle.std.specs.Prelude.{◌≡◌, ◌≢◌, ◌≤◌, ◌<◌, ◌∷◌, [], ◌↔◌, ℕ, List, None, IfNone, IfOk, IfSome, IsTrue, OnErr, OnOk};
     ghost use Rattle.std.specs.List.{All};
-    ghost use Rattle.session_build.specs.Outgoing.{outgoing_said};
-    ghost use Rattle.session_core.specs.Settled.{Awaits, IsAsking, IsBack, IsNeeded, IsSettled, NeedsNothing, Suits, left_to_do};
+    ghost use Rattle.build_messages.specs.Outgoing.{outgoing_said};
+    ghost use Rattle.session_core.specs.Settled.{Awaits, DrainsCancelled, IsAsking, IsBack, IsNeeded, IsSettled, NeedsNothing, Suits, left_to_do};
     ghost use Rattle.session_core.specs.Standing.{GoesOn, HeadRests, IsAlive, IsQuiet, IsUpHead, StandsFor, left_to_write, status_of};
     ghost use Rattle.session_core.specs.State.{handed_of, rest_of, said_out};
     ghost use Rattle.session_law.specs.IsFramed.{IsFramed};
@@ -130,6 +130,7 @@ impl Core {
         ensures awaits { OnOk result ((number : ℕ) → Awaits (rest_of self.new) number
             → Awaits (rest_of self.old) number) }
         ensures given { self.new.given ≡ self.old.given }
+        ensures drains { OnOk result (DrainsCancelled (rest_of self.old) (rest_of self.new)) }
         ensures alive { OnOk result (IsAlive self.new) }
         ensures dead { OnErr result (¬ IsAlive self.new) }
         ensures found { OnOk result (IsAlive self.old) }
@@ -160,6 +161,7 @@ impl Core {
         ensures dead { OnErr result (¬ IsAlive self.new) }
         ensures found { OnOk result (IsAlive self.old) }
         ensures status { status_of self.new ≡ status_of self.old }
+        ensures drains { self.new.drains ≡ self.old.drains }
     {
         let acted = self.take_hand(got);
         self.dead = acted.is_err();
@@ -180,6 +182,8 @@ impl Core {
             → job.number ≢ outcome.job.number → IsBack (rest_of self.new) job) }
         ensures awaits { OnOk result ((number : ℕ) → Awaits (rest_of self.new) number
             → Awaits (rest_of self.old) number × (number ≢ outcome.job.number)) }
+        ensures others { OnOk result ((number : ℕ) → Awaits (rest_of self.old) number
+            → number ≢ outcome.job.number → Awaits (rest_of self.new) number) }
         ensures given { self.new.given ≡ self.old.given }
         ensures fewer { OnOk result (Awaits (rest_of self.old) outcome.job.number
             → left_to_do (rest_of self.new) < left_to_do (rest_of self.old)) }
@@ -188,6 +192,7 @@ impl Core {
         ensures dead { OnErr result (¬ IsAlive self.new) }
         ensures found { OnOk result (IsAlive self.old) }
         ensures status { status_of self.new ≡ status_of self.old }
+        ensures drains { self.new.drains ≡ self.old.drains }
     {
         let acted = self.take_outcome(outcome);
         self.dead = acted.is_err();
@@ -208,6 +213,7 @@ impl Core {
         ensures bare { OnOk result (All IsBare (said_out self.new)) }
         ensures given { self.new.given ≡ self.old.given }
         ensures idle { OnOk result (self.new.head ≡ None) }
+        ensures drains { OnOk result (DrainsCancelled (rest_of self.old) (rest_of self.new)) }
         ensures alive { OnOk result (IsAlive self.new) }
         ensures dead { OnErr result (¬ IsAlive self.new) }
         ensures found { OnOk result (IsAlive self.old) }

@@ -1,8 +1,8 @@
 ghost use Rattle.std.specs.Prelude.{◌≡◌, ◌++◌, ◌∷◌, [], map, ℕ, List, None, Some, true, IfSome, IfNone, OnOk, OnErr};
 ghost use Rattle.std.specs.List.{All};
 ghost use Rattle.rpc_peer.specs.Said.{IsId, said};
-ghost use Rattle.session_build.specs.Outgoing.{outgoing_said};
-ghost use Rattle.session_core.specs.Judging.{answer_unread, Fits, HasQueuedTexts, IsSaid};
+ghost use Rattle.build_messages.specs.Outgoing.{outgoing_said};
+ghost use Rattle.session_verdicts.specs.Judging.{answer_unread, Fits, HasQueuedTexts, IsSaid};
 ghost use Rattle.session_core.specs.Moving.{Beside, BesideHead, BesideQueue, HeadRunsOn, IsAtOnce, IsOwedFirst, IsUnmarked, KeepsNotices, LosesAll, LosesIn, QueueTexts, RunsOn, Settles, SettlesAll, StaysBare, WasMarked};
 ghost use Rattle.bsp_records.specs.Limits.{origin_limit};
 ghost use Rattle.json_shape.specs.Shapes.{IsTextWithin};
@@ -20,17 +20,17 @@ ghost use Rattle.session_law.specs.Methods.{Verdict};
 ghost use Rattle.session_law.specs.Open.{Open, asking_for, none, owing, working};
 ghost use Rattle.session_law.specs.Requests.{Asked};
 
-use crate::answers::{
-    call_cancelled, cancelled, initialize_value, null_answer, refusal, success, unread_answer,
-};
-use crate::force::InForce;
 use crate::head::{Head, Phase};
 use crate::session::Core;
-use crate::verdicts::{Answer, Queued, Reason};
+use build_messages::Outgoing;
 use ob_text::{NoMemory, Text};
 use rpc_peer::{Id, Message};
-use session_build::{Build, Outgoing};
+use session_build::Build;
 use session_queue::Waiting;
+use session_verdicts::{
+    Answer, InForce, Queued, Reason, call_cancelled, cancelled, initialize_value, null_answer,
+    refusal, success, unread_answer,
+};
 use std::collections::VecDeque;
 
 impl Core {

@@ -1,22 +1,19 @@
 ghost use Rattle.std.specs.Prelude.{◌≡◌, ◌≤◌, None, IsSome, OnOk, OnErr};
 ghost use Rattle.rpc_peer.specs.Said.{IsId};
-ghost use Rattle.session_core.specs.Judging.{HasQueuedTexts};
+ghost use Rattle.session_verdicts.specs.Judging.{HasQueuedTexts};
 ghost use Rattle.session_core.specs.Moving.{BesideHead, StaysBare};
-ghost use Rattle.session_core.specs.Settled.{HeadStays, IsAsking, IsSettled, IsSound, TakesUpRest, left_to_do};
+ghost use Rattle.session_core.specs.Settled.{BuildStays, HeadStays, IsAsking, IsSettled, IsSound, TakesUpRest, left_to_do};
 ghost use Rattle.session_core.specs.Standing.{Carries, HeadGoesOn, HeadRests, Loses};
 ghost use Rattle.session_core.specs.State.{rest_of};
 ghost use Rattle.session_core.specs.Taking.{IsTakenUp, Plans, Rereads};
 
 use crate::head::{Head, Phase};
-use crate::judging::take_up;
 use crate::needs::workspace_paths;
-use crate::planned::Planned;
 use crate::session::Core;
-use crate::verdicts::{Queued, TakenUp};
 use ob_text::NoMemory;
 use rpc_peer::Id;
-use session_build::paths_of;
 use session_queue::Waiting;
+use session_verdicts::{Planned, Queued, TakenUp, paths_of, take_up};
 
 impl Core {
     /// Keeps a build at the head until it has its documents.
@@ -63,6 +60,7 @@ impl Core {
         ensures bare { OnOk result (StaysBare self.old self.new) }
         ensures rest { OnOk result (TakesUpRest (rest_of self.old) (rest_of self.new) waiting.id waiting.number) }
         ensures queue { self.new.queue ≡ self.old.queue }
+        ensures drains { self.new.drains ≡ self.old.drains }
         ensures beside { BesideHead self.old self.new }
         ensures rests { OnOk result (HeadRests self.new.head) }
         ensures goes_on { OnOk result (HeadGoesOn self.new.head) }
@@ -92,7 +90,9 @@ impl Core {
         ensures settled { OnOk result (IsSettled (rest_of self.new)) }
         ensures asking { OnOk result (IsAsking (rest_of self.new)) }
         ensures stays { OnOk result (HeadStays self.old.head self.new.head) }
+        ensures build { OnOk result (BuildStays self.old.head self.new.head) }
         ensures no_more { OnOk result (left_to_do (rest_of self.new) ≤ left_to_do (rest_of self.old)) }
+        ensures drains { self.new.drains ≡ self.old.drains }
         ensures beside { BesideHead self.old self.new }
     {
         'waiting: while self.head.is_none() {

@@ -14,10 +14,10 @@ use Rattle.session_law.proofs.MoveLaws.{answered_null, answers_first, answers_la
 use Rattle.session_law.proofs.OpenLaws.{GoOn, GoesOn, comes_first, comes_up, waits_behind}
 use Rattle.session_law.proofs.RequestLaws.{IsUnmarked}
 use Rattle.session_law.proofs.TakeLaws.{HasStarted, IsUp, MayAsk, WaitsBehind, all_marks, caught_up, handed_owing, handed_working, marked_head, may_hand, took_end}
-use Rattle.session_law.proofs.WorkLaws.{answered, build_answers, build_cancelled, build_cancels, build_tells, builds_answered, first_so, granted_answered}
+use Rattle.session_law.proofs.WorkLaws.{answered, build_answers, build_cancelled, build_cancels, build_tells, builds_answered, first_so, granted_answered, build_answer}
 use Rattle.session_law.proofs.WriteLaws.{is_built, is_telling, untelling}
 use Rattle.session_law.proofs.WrittenLaws.{IsNotice, PublishesOf, noticed}
-use Rattle.session_law.specs.Builds.{Shows, build_answer, build_said, build_status, cancelled_said, has_error, table_behind}
+use Rattle.session_law.specs.Builds.{Shows, build_said, build_status, cancelled_said, has_error, table_behind}
 use Rattle.session_law.specs.Cancelling.{IsCancelledBy}
 use Rattle.session_law.specs.CancelsForCause.{call_cancelled, refused_cancelled}
 use Rattle.session_law.specs.Course.{AreGiven, Given, HasEnded, Tells}

@@ -2,8 +2,7 @@
 use Rattle.std.proofs.Common.{◌≡◌, ◌≤◌, ◌+◌, ◌*◌, ℕ, List, length, true, false, Some, lit≤, refl, arith}
 use Rattle.std.specs.Prelude.{codes}
 use Rattle.bsp_records.proofs.ShortLaws.{length_member, text_short}
-use Rattle.ob_text.proofs.AsciiLaws.{text_from_test}
-use Rattle.ob_text.specs.Ascii.{all_ascii}
+use Rattle.ob_text.proofs.AsciiLaws.{all_ascii, text_from_test}
 use Rattle.rpc_peer.specs.Said.{notification, body_of, version}
 use Rattle.serde_json.specs.Data.{Data, string, member, no_members}
 use Rattle.serde_json.specs.Written.{compact_text, members_text, has_float}

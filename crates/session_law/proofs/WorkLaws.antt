@@ -14,13 +14,13 @@ use Rattle.session_law.proofs.OpenLaws.{GoOn, apart_without, is_active, marked_f
 use Rattle.session_law.proofs.RequestLaws.{HasOther, same_id_refl}
 use Rattle.session_law.proofs.WriteLaws.{allowed_build, allowed_cancelled, left_open, owed_first, owed_open}
 use Rattle.session_law.proofs.WrittenLaws.{IsNotice, PublishesOf, Works, all_cancelled, all_noticed, all_told, noticed}
-use Rattle.session_law.specs.Builds.{CleanBuild, Finding, Shows, build_answer, build_said, build_status, cancelled_said, has_error}
+use Rattle.session_law.specs.Builds.{CleanBuild, Finding, Shows, build_said, build_status, cancelled_said, has_error}
 use Rattle.session_law.specs.Cancelling.{IsCancelledBy}
 use Rattle.session_law.specs.Course.{Given, HasEnded, Tells}
 use Rattle.session_law.specs.History.{Told}
 use Rattle.session_law.specs.IsFramed.{IsFramed}
 use Rattle.session_law.specs.Lawful.{EachAllowed, WriteAllowed}
-use Rattle.session_law.specs.Methods.{built}
+use Rattle.session_law.specs.Methods.{built, Build}
 use Rattle.session_law.specs.Open.{AreApart, IsFirst, IsOpen, Open, none, working, working_on}
 use Rattle.session_law.specs.Order.{Event, onto, write}
 use Rattle.session_law.specs.Past.{Now, after, builds_by, by_event, cleaned_by, granted_in, standing}
@@ -29,6 +29,9 @@ use Rattle.session_law.specs.Requests.{Active, Asked, active_of, first_up, is_op
 use Rattle.session_law.specs.ShowsCleanBuild.{ShowsAll}
 use Rattle.session_law.specs.ShowsOldOrNew.{ShowsEither}
 use Rattle.session_law.specs.TasksInOrder.{HasToldAll, IsGivenBy}
+
+abbrev pub build_answer : Id → Build → List Finding → Said
+build_answer id build findings = build_said id build.origin (list_any has_error findings)
 
 -- notifications leave open what is open
 pub noticed_open : (o : Open) (now : Now) (messages : List Said) → IsOpen o now → IsOpen o (noticed messages now)

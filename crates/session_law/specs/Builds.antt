@@ -112,9 +112,6 @@ build_said id origin failed = result (Some id) (compile_result_data (record { or
 unfoldable pub cancelled_said : Id → Option (List ℕ) → Said
 cancelled_said id origin = result (Some id) (compile_result_data (record { origin_id = origin; status_code = statuses.Cancelled }))
 
-abbrev pub build_answer : Id → Build → List Finding → Said
-build_answer id build findings = build_said id build.origin (list_any has_error findings)
-
 -- ---- what a client shows
 
 -- what a message publishes, as a client reads it

@@ -158,11 +158,5 @@ after (event ∷ past) = by_event event (after past)
 
 -- ---- parts of it that are spoken of alone
 
-abbrev pub open_after : List Event → List Asked
-open_after order = (after order).requests
-
-abbrev pub closed_after : List Event → Bool
-closed_after order = (after order).closed
-
 abbrev pub status_after : List Event → Option ℕ
 status_after order = (after order).status

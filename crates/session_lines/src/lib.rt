@@ -1,7 +1,8 @@
 //! What clients send and what they are told, each message as a line of words.
 //!
-//! For the rows of whole sessions in crates above; it stands on `bsp_edge` for the source that gives what is sent. Begin with
-//! `asked.rt` and `told.rt`, which say what lines there are.
+//! For the rows of whole sessions in crates above; it stands on `bsp_edge` for the source that gives what is sent. It knows
+//! the protocol's messages as text, and nothing of the server's records. Begin with `asked.rt` and `told.rt`, which say what
+//! lines there are.
 #![tactic(auto)]
 
 mod asked;

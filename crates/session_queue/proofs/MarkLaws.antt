@@ -166,31 +166,31 @@ module _ {T : Type 0} where
 
   -- ---- the first that is marked
 
-  none_before : (marks : List (Id × Bool)) (requests : List (Request T)) (place : ℕ) (d : Request T)
-      → ((k : ℕ) → k < place → is_marked marks (get_or requests k d).id ≡ false) → first_marked (waiting_of marks (take place requests)) ≡ None
+  none_before : (marks : List (Id × Bool)) (requests : List (Request T)) (index : ℕ) (d : Request T)
+      → ((k : ℕ) → k < index → is_marked marks (get_or requests k d).id ≡ false) → first_marked (waiting_of marks (take index requests)) ≡ None
   none_before marks requests zero d unmarked = refl
-  none_before marks [] (suc place) d unmarked = refl
-  none_before marks (request ∷ requests) (suc place) d unmarked =
-      ap (λ (b : Bool). cond b (Some (waiting_at marks request)) (first_marked (waiting_of marks (take place requests)))) (unmarked 0 (omega arith))
-      ∙ none_before marks requests place d (λ k below. unmarked (suc k) (omega arith))
+  none_before marks [] (suc index) d unmarked = refl
+  none_before marks (request ∷ requests) (suc index) d unmarked =
+      ap (λ (b : Bool). cond b (Some (waiting_at marks request)) (first_marked (waiting_of marks (take index requests)))) (unmarked 0 (omega arith))
+      ∙ none_before marks requests index d (λ k below. unmarked (suc k) (omega arith))
 
-  pub takes_marked : (old new : List (Id × Bool)) (requests items : List (Request T)) (place : ℕ) (request : Request T)
+  pub takes_marked : (old new : List (Id × Bool)) (requests items : List (Request T)) (index : ℕ) (request : Request T)
       → ((other : Id) → mark_at new other ≡ (if equal request.id other then None else mark_at old other))
       → AreMarksOf old (ids_of requests)
-      → position (λ r. is_marked old r.id) requests ≡ Some place → request ≡ get_or requests place request → items ≡ remove requests place
+      → position (λ r. is_marked old r.id) requests ≡ Some index → request ≡ get_or requests index request → items ≡ remove requests index
       → AreMarksOf new (ids_of items) × TakesMarked (waiting_of old requests) (waiting_at old request) (waiting_of new items)
-  takes_marked old new requests items place request told are first at is =
-      let found = position-Some (λ r. is_marked old r.id) requests place request first in
-      let was : requests ≡ take place requests ++ request ∷ drop (suc place) requests =
-      sym (set-get_or requests place request) ∙ (ap (set requests place) (sym at) ∙ set_split requests place request found.0) in (
-        taken_marks old new requests items (take place requests) (drop (suc place) requests) request told was is are,
+  takes_marked old new requests items index request told are first at is =
+      let found = position-Some (λ r. is_marked old r.id) requests index request first in
+      let was : requests ≡ take index requests ++ request ∷ drop (suc index) requests =
+      sym (set-get_or requests index request) ∙ (ap (set requests index) (sym at) ∙ set_split requests index request found.0) in (
+        taken_marks old new requests items (take index requests) (drop (suc index) requests) request told was is are,
         record {
-          before = waiting_of old (take place requests);
-          after = waiting_of old (drop (suc place) requests);
-          was = ap (waiting_of old) was ∙ map-append (waiting_at old) (take place requests) (request ∷ drop (suc place) requests);
-          is = taken_waiting old new requests items (take place requests) (drop (suc place) requests) request told was is are;
+          before = waiting_of old (take index requests);
+          after = waiting_of old (drop (suc index) requests);
+          was = ap (waiting_of old) was ∙ map-append (waiting_at old) (take index requests) (request ∷ drop (suc index) requests);
+          is = taken_waiting old new requests items (take index requests) (drop (suc index) requests) request told was is are;
           marked = ap (λ (r : Request T). is_marked old r.id) at ∙ found.1;
-          none_before = none_before old requests place request found.2;
+          none_before = none_before old requests index request found.2;
         },
       )
 

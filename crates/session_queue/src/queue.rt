@@ -124,8 +124,8 @@ impl<T> Queue<T> {
         ensures kept { kept_of self.new ≡ kept_of self.old }
         ensures apart { AreApart (ids self.old) }
     {
-        let place = first_marked(&self.requests, &self.marks)?;
-        let request = self.requests.remove(place)?;
+        let index = first_marked(&self.requests, &self.marks)?;
+        let request = self.requests.remove(index)?;
         Some(marked(&mut self.marks, request))
     }
 
@@ -159,7 +159,7 @@ fn marked<T>(marks: &mut IndexMap<Id, bool>, request: Request<T>) -> Waiting<T>
     }
 }
 
-/// The place of the first request that is marked.
+/// The index of the first request that is marked.
 fn first_marked<T>(requests: &VecDeque<Request<T>>, marks: &IndexMap<Id, bool>) -> Option<usize>
     ensures { result ≡ position (λ request. is_marked marks.now.entries request.id) requests.now.items }
 {

@@ -19,9 +19,28 @@ use Rattle.std.specs.Str.{bytes_eq}
 use Rattle.std.proofs.lemmas.Slice.Eq.{bytes_eq-Decides}
 use Rattle.target_graph.specs.declared.target.Target.{Target}
 use Rattle.reload_rules.specs.Changes.{IsBefore, names_of, with_name}
-use Rattle.session_reload.specs.Sides.{AreSides, HasSides, IsEntryOf, IsInOrder, IsSideAt, joined_to, name_cmp, names_in, new_of, old_of, same_name, side_at}
+use Rattle.session_reload.specs.Sides.{AreSides, IsEntryOf, IsInOrder, joined_to, name_cmp, names_in, same_name, side_at}
 use Rattle.session_reload.specs.declared.sides.Side.{Side}
 use Rattle.session_reload.proofs.NameLaws.{found, finds, or_none, same_from, some_of}
+
+-- ---- what is known of a name
+
+abbrev pub old_of : Option Side → Option Target
+old_of None = None
+old_of (Some side) = option_copied side.old
+
+abbrev pub new_of : Option Side → Option Target
+new_of None = None
+new_of (Some side) = option_copied side.new
+
+-- what is there at the name, where these targets are there
+pub record IsSideAt (old new : List Target) (name : List ℕ) (found : Option Side) : Type 0 where
+  pub old_is : old_of found ≡ with_name name old
+  pub new_is : new_of found ≡ with_name name new
+  pub there : is_some found ≡ (is_some (with_name name old) || is_some (with_name name new))
+
+abbrev pub HasSides : List Target → List Target → List (Bor (List ℕ) × Side) → Type 0
+HasSides old new entries = (name : List ℕ) → IsSideAt old new name (side_at entries name)
 
 -- ---- one more target
 
@@ -91,14 +110,14 @@ no_sides name = record { old_is = refl; new_is = refl; there = refl }
 -- ---- all of them
 
 module _ (old new : List Target) (entries : List (Bor (List ℕ) × Side)) (has : HasSides old new entries) (sorted : IsInOrder entries) where
-  at_place : (k : ℕ) (d : Bor (List ℕ) × Side) → k < length entries → side_at entries (get_or entries k d).0.now ≡ Some (get_or entries k d).1
-  at_place k d h =
+  at_index : (k : ℕ) (d : Bor (List ℕ) × Side) → k < length entries → side_at entries (get_or entries k d).0.now ≡ Some (get_or entries k d).1
+  at_index k d h =
       lookup_from_place {eq = eq_by_cmp name_cmp} (eq_by_cmp_equiv (on_total (λ (b : Bor (List ℕ)). b.now) nat_list_cmp_total)) entries k (get_or entries k d).0 (get_or entries k d).1
       (IsDistinct-from_sorted name_cmp (keys_of entries) sorted) (slice_get-get_or entries k d h)
 
   entry_at : (k : ℕ) (d : Bor (List ℕ) × Side) → k < length entries → IsEntryOf old new (get_or entries k d)
   entry_at k d h =
-      let is = at_place k d h in
+      let is = at_index k d h in
       (ap old_of (sym is) ∙ (has (get_or entries k d).0.now).old_is, ap new_of (sym is) ∙ (has (get_or entries k d).0.now).new_is)
 
   ordered : AllPairs IsBefore (names_in entries)
@@ -132,7 +151,7 @@ module _ (old new : List Target) (entries : List (Bor (List ℕ) × Side)) (has 
   each_at : (k : ℕ) (d : Bor (List ℕ) × Side) → k < length entries → Contains (names_of (old ++ new)) (get_or entries k d).0.now
   each_at k d h =
       let name = (get_or entries k d).0.now in
-      named_in name (or_cases (is_some (with_name name old)) (is_some (with_name name new)) (sym (has name).there ∙ ap is_some (at_place k d h)))
+      named_in name (or_cases (is_some (with_name name old)) (is_some (with_name name new)) (sym (has name).there ∙ ap is_some (at_index k d h)))
 
   listed : (name : List ℕ) → is_some (side_at entries name) ≡ true → Contains (names_in entries) name
   listed name there =

@@ -1,5 +1,5 @@
 -- The targets of two workspaces by their names, as they are sorted in memory.
-use Rattle.std.specs.Prelude.{◌≡◌, ◌||◌, ℕ, Bool, List, map, All, Option, None, Some, is_some}
+use Rattle.std.specs.Prelude.{◌≡◌, ℕ, Bool, List, map, All, Option, None, Some}
 use Rattle.std.specs.Borrow.{Bor}
 use Rattle.std.specs.Cmp.Lexicographic.{slice_cmp}
 use Rattle.std.specs.List.Sorted.{IsStrictlySortedBy}
@@ -19,12 +19,9 @@ abbrev pub side_at : List (Bor (List ℕ) × Side) → List ℕ → Option Side
 side_at entries name = lookup (λ key. same_name name key.now) entries
 
 -- the first targets of both
-abbrev pub joined : Side → Side → Side
-joined first other = record { old = option_or first.old other.old; new = option_or first.new other.new }
-
 abbrev pub joined_to : Option Side → Side → Side
 joined_to None side = side
-joined_to (Some first) side = joined first side
+joined_to (Some first) side = record { old = option_or first.old side.old; new = option_or first.new side.new }
 
 -- the names ascend
 abbrev pub name_cmp : Bor (List ℕ) → Bor (List ℕ) → Ordering
@@ -32,25 +29,6 @@ name_cmp a b = slice_cmp nat_cmp a.now b.now
 
 abbrev pub IsInOrder : List (Bor (List ℕ) × Side) → Type 0
 IsInOrder entries = IsStrictlySortedBy name_cmp (keys_of entries)
-
--- ---- what is known of a name
-
-abbrev pub old_of : Option Side → Option Target
-old_of None = None
-old_of (Some side) = option_copied side.old
-
-abbrev pub new_of : Option Side → Option Target
-new_of None = None
-new_of (Some side) = option_copied side.new
-
--- what is there at the name, where these targets are there
-pub record IsSideAt (old new : List Target) (name : List ℕ) (found : Option Side) : Type 0 where
-  pub old_is : old_of found ≡ with_name name old
-  pub new_is : new_of found ≡ with_name name new
-  pub there : is_some found ≡ (is_some (with_name name old) || is_some (with_name name new))
-
-abbrev pub HasSides : List Target → List Target → List (Bor (List ℕ) × Side) → Type 0
-HasSides old new entries = (name : List ℕ) → IsSideAt old new name (side_at entries name)
 
 -- ---- all of them
 

@@ -12,8 +12,8 @@ use std::test::Fail;
 use worker_pool::{Crew, InlineCrew};
 
 /// A session: the files, what changes and what goes before a call of the tree (the second call is that of the first build),
-/// which calls of it fail, what is sent, the member `originId` of its compiles, which reads of the input fail, what is written,
-/// and the status.
+/// which calls of it fail, what is sent, the member `originId` of its compiles, which reads of the input and which writes fail,
+/// what is written, the note, and the status.
 #[derive(Clone, Copy)]
 pub struct Row<'a> {
     pub files: Files<'a>,
@@ -23,6 +23,7 @@ pub struct Row<'a> {
     pub sent: &'a str,
     pub origin: &'a str,
     pub failing: &'static [u64],
+    pub unwritten: &'static [u64],
     pub told: &'a str,
     pub notes: &'a str,
     pub status: u8,
@@ -37,6 +38,7 @@ pub const ROW: Row<'static> = Row {
     sent: "",
     origin: "",
     failing: &[],
+    unwritten: &[],
     told: "",
     notes: "",
     status: 0,
@@ -65,8 +67,8 @@ pub fn expect_by<C: Crew>(alloc: Global, row: &Row, crew: &mut C) -> Result<(), 
     expect_told(alloc, row, session, output.as_slice(), crew)
 }
 
-/// Runs a session over the files of a row, whose reads fail as there, and looks for this output, and for the row's note and
-/// status.
+/// Runs a session over the files of a row, whose reads and writes fail as there, and looks for this output, and for the row's
+/// note and status. All that is sent must be taken.
 pub fn expect_told<C: Crew>(
     alloc: Global,
     row: &Row,
@@ -80,6 +82,7 @@ pub fn expect_told<C: Crew>(
     let taken = session.bytes.len() as u64;
     let fails = Fails {
         input: row.failing,
+        output: row.unwritten,
         ..NOTHING_FAILS
     };
     let left = run_by(alloc, session, fails, &mut tree, crew)?;
@@ -107,8 +110,6 @@ pub fn expect_longer(alloc: Global, row: &Row, sent: &str, told: &str) -> Result
     let mut crew = InlineCrew::new(alloc);
     expect_told(alloc, row, session, output.as_slice(), &mut crew)
 }
-
-/// What ends a session cancels the build that runs first, and then what waits, in order.
 
 /// What a front meets, what is sent behind it, and what that writes.
 pub type Behind = (Row<'static>, &'static str, &'static str);

@@ -1,7 +1,7 @@
 use session_lines::{CLOSED, INITIALIZED, Parts, add_frame, add_told};
 use session_runs::{
-    APP, Files, ROW, Row, WORKSPACE_FILE, expect_answers, expect_row, expect_whole, session_of,
-    tree,
+    APP, Files, ROW, Row, WORKSPACE_FILE, expect_answers, expect_row, expect_rows, expect_whole,
+    session_of, tree,
 };
 use std::alloc::Global;
 use std::test::Fail;
@@ -244,4 +244,46 @@ null 3
             ..ROW
         },
     )
+}
+
+/// Sessions whose output fails when the check is made: as its end is written, and behind that.
+const UNWRITTEN: [Row<'static>; 2] = [
+    Row {
+        sent: "
+initialize
+compile 2 app
+wait
+",
+        unwritten: &[5],
+        told: "
+initialized
+start r2
+start r2.t1 app
+start r2.c1 r2.t1 A.Mod
+",
+        status: 4,
+        ..ROW
+    },
+    Row {
+        sent: "
+initialize
+compile 2 app
+wait
+",
+        unwritten: &[6],
+        told: "
+initialized
+start r2
+start r2.t1 app
+start r2.c1 r2.t1 A.Mod
+finish r2.c1 r2.t1 1
+",
+        status: 4,
+        ..ROW
+    },
+];
+
+#[test]
+fn output_fails_as_an_outcome_is_acted_on(rt: HostRuntime) -> Result<(), Fail> {
+    expect_rows(rt.alloc(), &UNWRITTEN)
 }

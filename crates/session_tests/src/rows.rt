@@ -1,10 +1,10 @@
 use crate::parts::{Row, expect, expect_over, plain};
-use bsp_cli::{Ended, Status, read_words, run_words};
 use bsp_edge::{MemSink, MemSource};
 use ob_text::{NoMemory, Text};
 use session_lines::{CLOSED, EXIT, INITIALIZE, INITIALIZED, Parts, SHUTDOWN, Sent, framed, joined};
 use session_runs::{
-    Fails, NOTHING_FAILS, WORKSPACE, WORKSPACE_ALONE, WORKSPACE_FILE, expect_whole, file, tree,
+    Ended, Fails, NOTHING_FAILS, Status, WORKSPACE, WORKSPACE_ALONE, WORKSPACE_FILE, expect_whole,
+    file, read_words, run_words, tree,
 };
 use std::alloc::Global;
 use std::test::Fail;

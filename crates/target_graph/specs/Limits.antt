@@ -17,6 +17,6 @@ dependencies_limit = 1024
 abbrev pub name_limit : ℕ
 name_limit = 255
 
--- the most bytes of a `rootUri`, and of the root that is made of it
+-- the most bytes of a root; `root_of` takes no longer text
 abbrev pub root_limit : ℕ
 root_limit = 4096

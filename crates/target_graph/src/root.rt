@@ -10,7 +10,7 @@ use std::alloc::Global;
 use std::marker::Model;
 use url::{ParseError, Url};
 
-/// The most bytes of a `rootUri`, and of the root that is made of it.
+/// The most bytes of a root.
 const ROOT_LIMIT: usize = 4_096;
 
 /// The address of a workspace's folder. It ends in a slash.

@@ -16,23 +16,23 @@ pub on_some : {A P : Type 0} (o : Option A) (x : A) → o ≡ Some x → OnSome 
 on_some None x is p = absurd (cc)
 on_some (Some y) x is p = p
 
--- the job at a place of those that wait, where no outcome is at hand
-pub taken : (hand : Option OutcomeParts) (waiting : List Job) (place : ℕ) (job : Job) → hand ≡ None → place < length waiting → job ≡ get_or waiting place job
-    → slice_get (jobs_of hand ++ map plain_job waiting) place ≡ Some (plain_job job)
-taken None waiting place job free within at =
-    slice_get-map plain_job waiting place ∙ ap (λ (o : Option Job). option_map plain_job o) (slice_get_read waiting (length waiting) place job refl within at)
-taken (Some outcome) waiting place job free within at = absurd (cc)
+-- the job at an index of those that wait, where no outcome is at hand
+pub taken : (hand : Option OutcomeParts) (waiting : List Job) (index : ℕ) (job : Job) → hand ≡ None → index < length waiting → job ≡ get_or waiting index job
+    → slice_get (jobs_of hand ++ map plain_job waiting) index ≡ Some (plain_job job)
+taken None waiting index job free within at =
+    slice_get-map plain_job waiting index ∙ ap (λ (o : Option Job). option_map plain_job o) (slice_get_read waiting (length waiting) index job refl within at)
+taken (Some outcome) waiting index job free within at = absurd (cc)
 
 -- and what is left
-pub left : (hand : Option OutcomeParts) (waiting others : List Job) (place : ℕ) (job done : Job) → hand ≡ None → others ≡ remove waiting place → done ≡ job
-    → plain_job done ∷ map plain_job others ≡ plain_job job ∷ remove (jobs_of hand ++ map plain_job waiting) place
-left None waiting others place job done free is same =
-    rw (is, same) (ap (λ (jobs : List JobTree). plain_job job ∷ jobs) (map-remove plain_job waiting place))
-left (Some outcome) waiting others place job done free is same = absurd (cc)
+pub left : (hand : Option OutcomeParts) (waiting others : List Job) (index : ℕ) (job done : Job) → hand ≡ None → others ≡ remove waiting index → done ≡ job
+    → plain_job done ∷ map plain_job others ≡ plain_job job ∷ remove (jobs_of hand ++ map plain_job waiting) index
+left None waiting others index job done free is same =
+    rw (is, same) (ap (λ (jobs : List JobTree). plain_job job ∷ jobs) (map-remove plain_job waiting index))
+left (Some outcome) waiting others index job done free is same = absurd (cc)
 
 -- nothing becomes of the other jobs that are out
-pub took_waits : (place : ℕ) (s t : Sight) → TookUp place s t → Waited s t
-took_waits place s t took =
+pub took_waits : (index : ℕ) (s t : Sight) → TookUp index s t → Waited s t
+took_waits index s t took =
     record {
       finished = took.finished;
       next = took.next;
@@ -40,7 +40,7 @@ took_waits place s t took =
       collected = took.collected;
       drained = took.drained;
       out =
-          rw took.out (IsPermutation-remove s.out place took.job (slice_get_within s.out place took.job took.there) (sym (get_or_from_slice_get s.out place took.job took.job took.there)));
+          rw took.out (IsPermutation-remove s.out index took.job (slice_get_within s.out index took.job took.there) (sym (get_or_from_slice_get s.out index took.job took.job took.there)));
     }
 
 -- those that wait are dropped, and no other

@@ -109,14 +109,14 @@ pub record AreTotals (s : Sight) (totals : Totals) : Type 0 where
 
 -- ---- what a crew without threads does where it is waited for
 
--- the job at a place of those that are out was done, and its outcome came to hand
-pub record TookUp (place : ℕ) (s t : Sight) : Type 0 where
+-- the job at an index of those that are out was done, and its outcome came to hand
+pub record TookUp (index : ℕ) (s t : Sight) : Type 0 where
   pub finished : t.finished ≡ s.finished
   pub next : t.next ≡ s.next
   pub given : t.given ≡ s.given
   pub collected : t.collected ≡ s.collected
   pub drained : t.drained ≡ s.drained
   pub job : JobTree
-  pub there : slice_get s.out place ≡ Some job
+  pub there : slice_get s.out index ≡ Some job
   pub hand : jobs_of t.hand ≡ job ∷ []
-  pub out : t.out ≡ job ∷ remove s.out place
+  pub out : t.out ≡ job ∷ remove s.out index

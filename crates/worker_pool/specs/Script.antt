@@ -11,7 +11,7 @@ script_sight crew = sight_of crew.backlog
 abbrev pub order_of : ScriptCrew → List ℕ
 order_of crew = crew.order.items
 
--- the place that an order names among so many, and the first one behind its end
-abbrev pub place_in : List ℕ → ℕ → ℕ
-place_in [] count = 0
-place_in (n ∷ ns) count = n % count
+-- the index that an order names among so many, and the first one behind its end
+abbrev pub index_in : List ℕ → ℕ → ℕ
+index_in [] count = 0
+index_in (n ∷ ns) count = n % count

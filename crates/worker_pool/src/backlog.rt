@@ -85,13 +85,13 @@ impl Backlog {
         self.waiting.len()
     }
 
-    /// Does the job at a place of those that wait.
-    pub fn take_up(&mut self, alloc: Global, place: usize)
+    /// Does the job at an index of those that wait.
+    pub fn take_up(&mut self, alloc: Global, index: usize)
         requires free { self.old.hand ≡ None }
-        requires place { place < length self.old.waiting.items }
-        ensures { TookUp place (sight_of self.old) (sight_of self.new) }
+        requires index { index < length self.old.waiting.items }
+        ensures { TookUp index (sight_of self.old) (sight_of self.new) }
     {
-        let job = self.waiting.remove(place).unwrap();
+        let job = self.waiting.remove(index).unwrap();
         self.hand = Some(job.run(alloc));
     }
 

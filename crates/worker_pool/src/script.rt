@@ -1,6 +1,6 @@
 ghost use Rattle.std.specs.Prelude.{◌≡◌, ◌<◌, ◌↔◌, false, None, length, drop, IsTrue, IsSome};
 ghost use Rattle.worker_pool.specs.Crews.{IsFresh, TookUp, Waited};
-ghost use Rattle.worker_pool.specs.Script.{place_in};
+ghost use Rattle.worker_pool.specs.Script.{index_in};
 
 use crate::backlog::Backlog;
 use crate::crew::Crew;
@@ -10,7 +10,7 @@ use crate::totals::Totals;
 use std::alloc::Global;
 
 /// Does its jobs where they are waited for, one in each wait, in an order that is told in advance: each wait that does a job
-/// takes up the next number, and does the job at this place of those that weren't begun, modulo their count. Behind the
+/// takes up the next number, and does the job at this index of those that weren't begun, modulo their count. Behind the
 /// end of the order it does the oldest one. It is for tests of what must hold in each order.
 pub struct ScriptCrew {
     alloc: Global,
@@ -58,7 +58,7 @@ impl Crew for ScriptCrew {
         self.backlog.collect()
     }
 
-    /// Where no outcome is at hand, it does the job at the next place of its order.
+    /// Where no outcome is at hand, it does the job at the next index of its order.
     fn wait(&mut self) -> bool
         requires { (script_sight self.old).finished ≡ false }
         ensures answer { IsTrue result ↔ (0 < length (script_sight self.old).out) }
@@ -66,7 +66,7 @@ impl Crew for ScriptCrew {
         ensures there { IsSome (script_sight self.old).hand → script_sight self.new ≡ script_sight self.old }
         ensures out { Waited (script_sight self.old) (script_sight self.new) }
         ensures turn { (script_sight self.old).hand ≡ None → IsTrue result
-            → TookUp (place_in (order_of self.old) (length (script_sight self.old).out)) (script_sight self.old) (script_sight self.new) }
+            → TookUp (index_in (order_of self.old) (length (script_sight self.old).out)) (script_sight self.old) (script_sight self.new) }
         ensures order { (script_sight self.old).hand ≡ None → IsTrue result
             → order_of self.new ≡ drop 1 (order_of self.old) }
         ensures kept { IsSome (script_sight self.old).hand → order_of self.new ≡ order_of self.old }
@@ -78,8 +78,8 @@ impl Crew for ScriptCrew {
         if count == 0 {
             return false;
         }
-        let place = next_place(&mut self.order, count);
-        self.backlog.take_up(self.alloc, place);
+        let index = next_index(&mut self.order, count);
+        self.backlog.take_up(self.alloc, index);
         true
     }
 
@@ -94,11 +94,11 @@ impl Crew for ScriptCrew {
     ghost adds_up = { λ crew. backlog_adds_up crew.backlog };
 }
 
-/// Takes the next number off an order, as a place among so many.
-fn next_place(order: &mut Vec<u32>, count: usize) -> usize
+/// Takes the next number off an order, as an index among so many.
+fn next_index(order: &mut Vec<u32>, count: usize) -> usize
     requires { 0 < count }
     ensures within { result < count }
-    ensures place { result ≡ place_in order.old.items count }
+    ensures index { result ≡ index_in order.old.items count }
     ensures rest { order.new.items ≡ drop 1 order.old.items }
 {
     if order.is_empty() {

@@ -1,5 +1,7 @@
-//! Tests of the public calls of `target_graph`: roots, workspace files, and what a workspace is asked. They stand
-//! above that crate, so that it isn't proved once more with its tests. There is nothing here to call.
+//! Tests of the public calls of `target_graph`: roots, workspace files, and what a workspace is asked.
+//!
+//! They stand above that crate, so that it isn't proved once more with its tests, and may know what it makes public. There is
+//! nothing here to call. Begin with `files.rt`.
 #![tactic(auto)]
 
 #[cfg(test)]

@@ -6,7 +6,7 @@ use Rattle.reload_messages.proofs.ToldLaws.{told_all}
 use Rattle.reload_messages.proofs.tell_reload.Goals as goal
 use Rattle.reload_messages.specs.Cleared.{HasCleared}
 use Rattle.reload_rules.specs.Dropped.{dropped, stays}
-use Rattle.session_build.specs.Outgoing.{outgoing_said}
+use Rattle.build_messages.specs.Outgoing.{outgoing_said}
 use Rattle.target_graph.specs.Workspace.{pairs_of}
 use Rattle.task_stream.specs.Showing.{shows}
 use Rattle.task_stream.specs.declared.shown.TableKey.{TableKey}

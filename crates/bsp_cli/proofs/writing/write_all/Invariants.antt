@@ -1,6 +1,6 @@
 use Rattle.std.proofs.Common.{◌≡◌, length}
-use Rattle.bsp_cli.specs.Writing.{GivesSoFar}
 use Rattle.bsp_cli.proofs.writing.write_all.Given as goal
+use Rattle.bsp_cli.proofs.WritingLaws.{GivesSoFar}
 
 abbrev pub invariant-pieces : goal.invariant-pieces
 invariant-pieces g l =

@@ -10,7 +10,8 @@ use Rattle.build_plan.specs.Places.{Places, with_finished, with_given}
 use Rattle.build_plan.specs.Rows.{OnCycle}
 use Rattle.oberon_types.specs.declared.entity.View.{View}
 use Rattle.build_rules.specs.Views.{HasView}
-use Rattle.clean_build.specs.Build.{IsSoFar, Slots}
+use Rattle.clean_build.proofs.SoFar.{IsSoFar}
+use Rattle.clean_build.specs.Build.{Slots}
 use Rattle.build_sources.specs.Known.{view_at}
 use Rattle.build_sources.specs.Sources.{world}
 use Rattle.clean_build.proofs.BuildLaws.{all_listed, given_few, imports_seen}

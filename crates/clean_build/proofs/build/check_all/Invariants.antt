@@ -1,5 +1,5 @@
 use Rattle.std.proofs.Common.{◌-◌, length}
-use Rattle.clean_build.specs.Build.{IsSoFar}
+use Rattle.clean_build.proofs.SoFar.{IsSoFar}
 use Rattle.build_sources.specs.Sources.{world}
 use Rattle.clean_build.proofs.build.check_all.Given as goal
 

@@ -1,8 +1,8 @@
 use Rattle.std.specs.Prelude.{◌≡◌, ◌+◌, ◌*◌, length, map}
 use Rattle.iface_key.specs.Keys.{option_then}
-use Rattle.iface_key.specs.Read.{so_far}
 use Rattle.iface_key.specs.ReadTypes.{plain_field, field_then}
 use Rattle.iface_key.proofs.reading_types.+read.Given as goal
+use Rattle.iface_key.proofs.Listed.{so_far}
 
 abbrev pub decreases-read_type : goal.decreases-read_type
 decreases-read_type l = 5 * l.depth + 3

@@ -20,9 +20,10 @@ use Rattle.oberon_rules.specs.Constants.{expr_const, simple_const, factor_const}
 use Rattle.oberon_infer.specs.Memory.{plain_scopes}
 use Rattle.oberon_constants.specs.declared.folding.Folding.{Folding}
 use Rattle.oberon_constants.specs.declared.folding.SetFolding.{SetFolding}
-use Rattle.oberon_constants.specs.Foldings.{folding_of, named_folding, unary_folding, relation_folding, related_folding, signed_folding, addends_folding, multipliers_folding, range_folding, set_folding, elements_folding, called_with_one, called_with_two, called_with_more}
+use Rattle.oberon_constants.specs.Foldings.{folding_of, named_folding, unary_folding, relation_folding, related_folding, signed_folding, range_folding, set_folding, called_with_one, called_with_two, called_with_more}
 use Rattle.oberon_constants.proofs.FoldingMemory.{related_out, expr_folds, addend_loop, simple_folds, multiplier_loop, term_folds, element_loop, upper_step, only_step, elements_fold_to, bare_name, one_selector, more_selected, call_one_out, call_two_out, call_more_out, built_loop}
 use Rattle.oberon_constants.proofs.folding.+folding.Goals as goal
+use Rattle.oberon_constants.proofs.FoldingLaws.{addends_folding, multipliers_folding, elements_folding}
 
 pub fold_expr-returns-in-Some : goal.fold_expr-returns-in-Some
 fold_expr-returns-in-Some t c =

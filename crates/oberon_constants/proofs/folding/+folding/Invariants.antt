@@ -3,8 +3,8 @@ use Rattle.oberon_tree.specs.Memory.{addends_list, multipliers_list, more_elemen
 use Rattle.oberon_types.specs.Folding.{parts_built}
 use Rattle.oberon_rules.specs.Constants.{more_exprs_const}
 use Rattle.oberon_infer.specs.Memory.{plain_scopes}
-use Rattle.oberon_constants.specs.Foldings.{addends_folding, multipliers_folding, elements_folding}
 use Rattle.oberon_constants.proofs.folding.+folding.Given as goal
+use Rattle.oberon_constants.proofs.FoldingLaws.{addends_folding, multipliers_folding, elements_folding}
 
 abbrev pub invariant-fold_simple-loop-addend : goal.invariant-fold_simple-loop-addend
 invariant-fold_simple-loop-addend l = addends_folding (plain_scopes l.scopes) l.left (addends_list (drop l.addend-index l.addend-items)) ≡ addends_folding (plain_scopes l.scopes) l.initial.left (addends_list l.addend-items)

@@ -5,9 +5,9 @@ use Rattle.oberon_rules.specs.ExpressionRules.{addends_say, multipliers_say, mor
 use Rattle.oberon_infer.specs.Adds.{Goes}
 use Rattle.oberon_infer.specs.Given.{plain_given, given_behind}
 use Rattle.oberon_infer.specs.Memory.{plain_scopes, plain_ex, plain_type_option, plain_expected}
-use Rattle.oberon_infer.specs.Sets.{are_whole}
 use Rattle.oberon_infer.proofs.LoopLaws.{elements_behind}
 use Rattle.oberon_infer.proofs.infer.+expression.Given as goal
+use Rattle.oberon_infer.proofs.PartLaws.{are_whole}
 
 abbrev pub invariant-simple-loop-addend : goal.invariant-simple-loop-addend
 invariant-simple-loop-addend l = record {

@@ -2,8 +2,7 @@ use Rattle.std.proofs.Common.{◌-◌, ◌≤◌, ◌<◌, ℕ, List, length, ap
 use Rattle.std.proofs.lemmas.List.{at_drop_all}
 use Rattle.oberon_infer.specs.declared.scope.Binding.{Binding}
 use Rattle.oberon_infer.specs.Memory.{plain_bindings, plain_scope}
-use Rattle.oberon_module.specs.Exported.{weight_of_bindings}
-use Rattle.oberon_module.proofs.ExportLaws.{binding_step, too_large}
+use Rattle.oberon_module.proofs.ExportLaws.{binding_step, too_large, weight_of_bindings}
 use Rattle.oberon_module.proofs.exports.is_too_large.Goals as goal
 
 pub loop-index-preserved : goal.loop-index-preserved

@@ -1,8 +1,8 @@
 use Rattle.std.proofs.Common.{refl, arith, ◌∷◌, ◌∙◌, []}
-use Rattle.oberon_parse.specs.Tests.{is_symbol}
-use Rattle.oberon_parse.proofs.Descending.{via, after_ident, entered, fewer, exits, onto}
-use Rattle.oberon_parse.proofs.Steps.{skip}
-use Rattle.oberon_parse.specs.Expected as want
+use Rattle.oberon_productions.specs.Tests.{is_symbol}
+use Rattle.oberon_productions.proofs.Descending.{via, after_ident, entered, fewer, exits, onto}
+use Rattle.oberon_productions.proofs.Steps.{skip}
+use Rattle.oberon_productions.specs.Expected as want
 use Rattle.oberon_scan.specs.declared.token.Symbol.TheVariants as symbols
 use Rattle.oberon_parse.proofs.top.alias.Goals as goal
 

@@ -1,7 +1,7 @@
 use Rattle.std.proofs.Common.{refl, arith, ◌∷◌, ◌++◌, ◌∙◌, []}
-use Rattle.oberon_parse.specs.Machine.{declarations_parts, module_parts}
-use Rattle.oberon_parse.proofs.Descending.{via, exits, behind}
-use Rattle.oberon_parse.specs.Expected as want
+use Rattle.oberon_productions.specs.Machine.{declarations_parts, module_parts}
+use Rattle.oberon_productions.proofs.Descending.{via, exits, behind}
+use Rattle.oberon_productions.specs.Expected as want
 use Rattle.oberon_scan.specs.declared.token.Symbol.TheVariants as symbols
 use Rattle.oberon_scan.specs.declared.token.Word.TheVariants as words
 use Rattle.oberon_parse.proofs.top.any_module.Goals as goal

@@ -1,7 +1,7 @@
 use Rattle.std.proofs.Common.{refl, arith, ◌∷◌, ◌∙◌, []}
-use Rattle.oberon_parse.specs.Machine.{import_parts}
-use Rattle.oberon_parse.proofs.Descending.{via, after_ident, fewer, exits, onto, behind}
-use Rattle.oberon_parse.specs.Expected as want
+use Rattle.oberon_productions.specs.Machine.{import_parts}
+use Rattle.oberon_productions.proofs.Descending.{via, after_ident, fewer, exits, onto, behind}
+use Rattle.oberon_productions.specs.Expected as want
 use Rattle.oberon_parse.proofs.top.import.Goals as goal
 
 pub returns-in_err-alias : goal.returns-in_err-alias

@@ -1,9 +1,9 @@
 use Rattle.std.proofs.Common.{refl, arith, ◌∷◌, ◌++◌, ◌∙◌, []}
-use Rattle.oberon_parse.specs.Machine.{import_parts}
-use Rattle.oberon_parse.specs.Tests.{is_word}
-use Rattle.oberon_parse.proofs.Descending.{via, after_symbol, entered, fewer, exits, onto, behind}
-use Rattle.oberon_parse.proofs.Steps.{skip}
-use Rattle.oberon_parse.specs.Expected as want
+use Rattle.oberon_productions.specs.Machine.{import_parts}
+use Rattle.oberon_productions.specs.Tests.{is_word}
+use Rattle.oberon_productions.proofs.Descending.{via, after_symbol, entered, fewer, exits, onto, behind}
+use Rattle.oberon_productions.proofs.Steps.{skip}
+use Rattle.oberon_productions.specs.Expected as want
 use Rattle.oberon_scan.specs.declared.token.Symbol.TheVariants as symbols
 use Rattle.oberon_scan.specs.declared.token.Word.TheVariants as words
 use Rattle.oberon_parse.proofs.top.imports.Goals as goal

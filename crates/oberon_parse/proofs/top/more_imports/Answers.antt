@@ -1,10 +1,10 @@
 use Rattle.std.proofs.Common.{refl, sym, arith, ◌∷◌, ◌++◌, ◌∙◌, []}
-use Rattle.oberon_parse.specs.Machine.{import_parts}
-use Rattle.oberon_parse.specs.Tests.{is_symbol}
-use Rattle.oberon_parse.proofs.Descending.{via, entered, fewer, exits, onto, behind, after_some, each_push}
-use Rattle.oberon_parse.proofs.Steps.{skip}
+use Rattle.oberon_productions.specs.Machine.{import_parts}
+use Rattle.oberon_productions.specs.Tests.{is_symbol}
+use Rattle.oberon_productions.proofs.Descending.{via, entered, fewer, exits, onto, behind, after_some, each_push}
+use Rattle.oberon_productions.proofs.Steps.{skip}
 use Rattle.oberon_tree.specs.Print.{print_next_import}
-use Rattle.oberon_parse.specs.Expected as want
+use Rattle.oberon_productions.specs.Expected as want
 use Rattle.oberon_scan.specs.declared.token.Symbol.TheVariants as symbols
 use Rattle.oberon_parse.proofs.top.more_imports.Goals as goal
 

@@ -1,7 +1,7 @@
 use Rattle.std.proofs.Common.{length}
-use Rattle.oberon_parse.specs.Reading.{ReadsSome}
+use Rattle.oberon_productions.specs.Reading.{ReadsSome}
 use Rattle.oberon_tree.specs.Print.{print_each, print_next_import}
-use Rattle.oberon_parse.specs.Expected as want
+use Rattle.oberon_productions.specs.Expected as want
 use Rattle.oberon_parse.proofs.top.more_imports.Given as goal
 
 abbrev pub invariant-loop-comma : goal.invariant-loop-comma

@@ -1,6 +1,6 @@
 use Rattle.std.proofs.Common.{refl, arith, ◌∷◌, ◌∙◌, []}
-use Rattle.oberon_parse.proofs.Descending.{via, after_symbol, after_word, after_ident, fewer, exits, onto, behind}
-use Rattle.oberon_parse.specs.Expected as want
+use Rattle.oberon_productions.proofs.Descending.{via, after_symbol, after_word, after_ident, fewer, exits, onto, behind}
+use Rattle.oberon_productions.specs.Expected as want
 use Rattle.oberon_scan.specs.declared.token.Symbol.TheVariants as symbols
 use Rattle.oberon_scan.specs.declared.token.Word.TheVariants as words
 use Rattle.oberon_parse.proofs.top.rest_of_module.Goals as goal

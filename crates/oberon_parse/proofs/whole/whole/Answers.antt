@@ -1,5 +1,5 @@
 use Rattle.std.proofs.Common.{◌∙◌, ap, sym, Some, length, ◌≡◌, []}
-use Rattle.oberon_parse.proofs.Descending.{exits}
+use Rattle.oberon_productions.proofs.Descending.{exits}
 use Rattle.oberon_parse.proofs.First.{nothing_more}
 use Rattle.oberon_parse.proofs.whole.whole.Goals as goal
 

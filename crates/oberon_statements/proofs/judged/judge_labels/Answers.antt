@@ -4,7 +4,7 @@ use Rattle.oberon_tree.specs.declared.statement.NextLabel.{NextLabel}
 use Rattle.oberon_rules.specs.Statements.{label_behind, labels_say, labels_behind}
 use Rattle.oberon_infer.specs.Memory.{plain_scopes}
 use Rattle.oberon_statements.specs.Labels.{Judges}
-use Rattle.oberon_statements.specs.Left.{next_labels}
+use Rattle.oberon_statements.proofs.Left.{next_labels}
 use Rattle.oberon_statements.proofs.LabelLaws.{labels_left, labels_turn, labels_end}
 use Rattle.oberon_statements.proofs.judged.judge_labels.Goals as goal
 

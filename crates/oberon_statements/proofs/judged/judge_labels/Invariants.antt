@@ -2,7 +2,7 @@ use Rattle.std.specs.Prelude.{List, drop}
 use Rattle.oberon_rules.specs.Statements.{CaseKind, Interval}
 use Rattle.oberon_infer.specs.Memory.{plain_scopes}
 use Rattle.oberon_statements.specs.Labels.{Knows}
-use Rattle.oberon_statements.specs.Left.{next_labels, LeftLabels}
+use Rattle.oberon_statements.proofs.Left.{next_labels, LeftLabels}
 use Rattle.oberon_statements.proofs.judged.judge_labels.Given as goal
 
 abbrev pub invariant-loop-next : goal.invariant-loop-next

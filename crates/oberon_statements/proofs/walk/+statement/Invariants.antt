@@ -4,7 +4,7 @@ use Rattle.oberon_rules.specs.Statements.{CaseKind, Interval, more_statements_sa
 use Rattle.oberon_infer.specs.Memory.{plain_scopes}
 use Rattle.oberon_infer.specs.Adds.{Goes}
 use Rattle.oberon_statements.specs.Labels.{Knows}
-use Rattle.oberon_statements.specs.Left.{LeftArms}
+use Rattle.oberon_statements.proofs.Left.{LeftArms}
 use Rattle.oberon_statements.proofs.walk.+statement.Given as goal
 
 abbrev pub invariant-statements-loop-next : goal.invariant-statements-loop-next

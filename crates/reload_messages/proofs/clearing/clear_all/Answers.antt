@@ -2,7 +2,7 @@ use Rattle.std.proofs.Common.{◌∷◌, ◌++◌, [], List, map, take, ap, sym,
 use Rattle.std.proofs.lemmas.List.{take_more}
 use Rattle.reload_messages.proofs.ClearLaws.{AreCleared, keys_before, one_more}
 use Rattle.reload_messages.proofs.clearing.clear_all.Goals as goal
-use Rattle.session_build.specs.Outgoing.{outgoing_said}
+use Rattle.build_messages.specs.Outgoing.{outgoing_said}
 use Rattle.task_stream.specs.Showing.{shows}
 use Rattle.task_stream.specs.declared.shown.TableKey.{TableKey}
 

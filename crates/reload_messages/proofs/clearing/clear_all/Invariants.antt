@@ -1,6 +1,6 @@
 use Rattle.std.proofs.Common.{map, take}
 use Rattle.reload_messages.proofs.ClearLaws.{AreCleared}
-use Rattle.session_build.specs.Outgoing.{outgoing_said}
+use Rattle.build_messages.specs.Outgoing.{outgoing_said}
 use Rattle.task_stream.specs.Showing.{shows}
 use Rattle.reload_messages.proofs.clearing.clear_all.Given as goal
 

@@ -2,8 +2,8 @@ use Rattle.std.proofs.Common.{List, map, refl}
 use Rattle.std.proofs.lemmas.Result.{on_ok_weaker}
 use Rattle.bsp_records.specs.declared.publishing.PublishDiagnosticsParams.{PublishDiagnosticsParams}
 use Rattle.reload_messages.proofs.ClearLaws.{one_cleared}
-use Rattle.session_build.proofs.Publications.{all_framed}
-use Rattle.session_build.specs.Outgoing.{outgoing_said}
+use Rattle.build_messages.proofs.Publications.{all_framed}
+use Rattle.build_messages.specs.Outgoing.{outgoing_said}
 use Rattle.task_stream.specs.Showing.{shows}
 use Rattle.reload_messages.proofs.clearing.clear_one.Goals as goal
 

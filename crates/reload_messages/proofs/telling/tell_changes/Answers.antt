@@ -6,7 +6,7 @@ use Rattle.reload_messages.proofs.ToldLaws.{changes_told}
 use Rattle.reload_messages.proofs.telling.tell_changes.Goals as goal
 use Rattle.rpc_peer.specs.Said.{Said}
 use Rattle.reload_rules.specs.declared.change.ChangedTarget.{ChangedTarget}
-use Rattle.session_build.specs.Outgoing.{outgoing_said}
+use Rattle.build_messages.specs.Outgoing.{outgoing_said}
 use Rattle.session_law.specs.IsFramed.{IsFramed}
 use Rattle.session_law.specs.Reloading.{changes_said}
 

@@ -7,8 +7,8 @@ use Rattle.rpc_frame.proofs.scan.scan.Given as goal
 abbrev pub invariant-pieces : goal.invariant-pieces
 invariant-pieces l = record {
   within : IsFitReading l.reading;
-  bound : l.place + length l.rest ≤ stream_limit;
-  reads_on : ReadsOn l.fn.reading l.reading l.fn.marks.items l.marks.items l.fn.piece l.rest l.fn.begun l.place;
+  bound : l.offset + length l.rest ≤ stream_limit;
+  reads_on : ReadsOn l.fn.reading l.reading l.fn.marks.items l.marks.items l.fn.piece l.rest l.fn.begun l.offset;
   goes_on : GoesOn l.fn.marks.items l.marks.items;
 }
 

@@ -5,7 +5,7 @@ use Rattle.json_shape.specs.Shapes.{IsTextWithin}
 use Rattle.bsp_records.specs.Limits.{origin_limit}
 use Rattle.session_law.specs.Builds.{IsPairOf, build_document}
 use Rattle.session_law.specs.declared.BuildDocument.{BuildDocument}
-use Rattle.session_build.specs.Documents.{build_of}
+use Rattle.build_messages.specs.Documents.{build_of}
 use Rattle.session_build.proofs.SettingLaws.{pairs_among, pairs_are}
 use Rattle.target_graph.specs.Address.{document_address}
 use Rattle.target_graph.specs.Faults.{IsRepeat}

@@ -4,7 +4,7 @@ use Rattle.rpc_peer.specs.Said.{Said}
 use Rattle.session_law.specs.IsFramed.{IsFramed}
 use Rattle.session_law.specs.Tasks.{build_finishes}
 use Rattle.session_build.specs.Cancels.{checks_said, targets_said}
-use Rattle.session_build.specs.Outgoing.{outgoing_said}
+use Rattle.build_messages.specs.Outgoing.{outgoing_said}
 use Rattle.session_build.proofs.CourseSteps.{finish_told}
 use Rattle.session_build.proofs.TellLaws.{said_push, tells_on, tells_push}
 use Rattle.session_build.proofs.cancelling.cancel_build.Goals as goal

@@ -5,8 +5,8 @@ use Rattle.rpc_peer.specs.Said.{Said}
 use Rattle.session_law.specs.IsFramed.{IsFramed}
 use Rattle.session_law.specs.Tasks.{check_finishes}
 use Rattle.session_build.specs.Cancels.{checks_said}
-use Rattle.session_build.specs.Outgoing.{outgoing_said}
-use Rattle.session_build.specs.Telling.{Tells}
+use Rattle.build_messages.specs.Outgoing.{outgoing_said}
+use Rattle.session_build.specs.Telling.{TellsBehind}
 use Rattle.session_build.specs.declared.going.Job.{Job}
 use Rattle.session_build.proofs.CancelSteps.{checks_more}
 use Rattle.session_build.proofs.CourseSteps.{finish_told}
@@ -24,7 +24,7 @@ loop-job-preserved c =
     let job : Job = c.job-item.result in
     let m : ℕ → ℕ → Said = (λ number target. check_finishes at.number number target statuses.Cancelled) in
     let said = c.in_ok-finish.ensures.said in
-    subst (λ (told : List Said). Tells told (map outgoing_said c.args.out.now.items) (map outgoing_said c.push_back.new.self.items))
+    subst (λ (told : List Said). TellsBehind told (map outgoing_said c.args.out.now.items) (map outgoing_said c.push_back.new.self.items))
     (sym (checks_more at jobs k job c.loop-job-test.true ∙ ap (λ (j : Job). checks_said at (take k jobs) ++ m j.number j.target ∷ []) (sym c.job-item.is)))
     (tells_push (checks_said at (take k jobs)) (map outgoing_said c.args.out.now.items) (map outgoing_said c.loop-job.out.items)
     (map outgoing_said c.push_back.new.self.items) (m job.number job.target) c.loop-job.invariant
@@ -33,5 +33,5 @@ loop-job-preserved c =
 
 pub returns : goal.returns
 returns c =
-    subst (λ (jobs : List Job). Tells (checks_said c.args.at.now jobs) (map outgoing_said c.args.out.now.items) (map outgoing_said c.loop-job.out.items))
+    subst (λ (jobs : List Job). TellsBehind (checks_said c.args.at.now jobs) (map outgoing_said c.args.out.now.items) (map outgoing_said c.loop-job.out.items))
     (take_all c.loop-job.job-index c.args.jobs.now c.loop-job-test.false) c.loop-job.invariant

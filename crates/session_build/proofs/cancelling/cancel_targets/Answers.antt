@@ -4,31 +4,31 @@ use Rattle.rpc_peer.specs.Said.{Said}
 use Rattle.session_law.specs.IsFramed.{IsFramed}
 use Rattle.session_law.specs.Tasks.{target_cancelled}
 use Rattle.session_build.specs.Cancels.{targets_said}
-use Rattle.session_build.specs.Outgoing.{outgoing_said}
-use Rattle.session_build.specs.Telling.{Tells}
+use Rattle.build_messages.specs.Outgoing.{outgoing_said}
+use Rattle.session_build.specs.Telling.{TellsBehind}
 use Rattle.session_build.proofs.CourseSteps.{finish_told}
 use Rattle.session_build.proofs.TellLaws.{cancelled_more, said_push, tells_none, tells_push}
 use Rattle.session_build.proofs.cancelling.cancel_targets.Goals as goal
 
-pub loop-place-init : goal.loop-place-init
-loop-place-init c = tells_none (map outgoing_said c.args.out.now.items) (map outgoing_said c.args.out.now.items) refl
+pub loop-index-init : goal.loop-index-init
+loop-index-init c = tells_none (map outgoing_said c.args.out.now.items) (map outgoing_said c.args.out.now.items) refl
 
-pub loop-place-preserved : goal.loop-place-preserved
-loop-place-preserved c =
+pub loop-index-preserved : goal.loop-index-preserved
+loop-index-preserved c =
     let at = c.args.at.now in
     let keys = at.targets.keys in
-    let k = c.loop-place.place in
+    let k = c.loop-index.index in
     let m = target_cancelled at.number (k + 1) in
-    let within : k < length keys = subst (λ n. k < n) c.len-place-end.ensures.len c.loop-place-test.true in
-    subst (λ (told : List Said). Tells told (map outgoing_said c.args.out.now.items) (map outgoing_said c.push_back.new.self.items))
+    let within : k < length keys = subst (λ n. k < n) c.len-index-end.ensures.len c.loop-index-test.true in
+    subst (λ (told : List Said). TellsBehind told (map outgoing_said c.args.out.now.items) (map outgoing_said c.push_back.new.self.items))
     (sym (cancelled_more at keys k 0 within))
-    (tells_push (targets_said at 1 (take k keys)) (map outgoing_said c.args.out.now.items) (map outgoing_said c.loop-place.out.items)
-    (map outgoing_said c.push_back.new.self.items) m c.loop-place.invariant
-    (said_push c.loop-place.out.items c.push_back.new.self.items c.in_ok-finish.finish m c.in_ok-push_back.ensures.items c.in_ok-finish.ensures.said)
+    (tells_push (targets_said at 1 (take k keys)) (map outgoing_said c.args.out.now.items) (map outgoing_said c.loop-index.out.items)
+    (map outgoing_said c.push_back.new.self.items) m c.loop-index.invariant
+    (said_push c.loop-index.out.items c.push_back.new.self.items c.in_ok-finish.finish m c.in_ok-push_back.ensures.items c.in_ok-finish.ensures.said)
     (subst IsFramed c.in_ok-finish.ensures.said c.in_ok-finish.ensures.framed) (finish_told _))
 
 pub returns : goal.returns
 returns c =
     let at = c.args.at.now in
-    subst (λ (keys : List ℕ). Tells (targets_said at 1 keys) (map outgoing_said c.args.out.now.items) (map outgoing_said c.loop-place.out.items))
-    (take_all c.loop-place.place at.targets.keys (subst (λ n. n ≤ c.loop-place.place) c.len-place-end.ensures.len c.loop-place-test.false)) c.loop-place.invariant
+    subst (λ (keys : List ℕ). TellsBehind (targets_said at 1 keys) (map outgoing_said c.args.out.now.items) (map outgoing_said c.loop-index.out.items))
+    (take_all c.loop-index.index at.targets.keys (subst (λ n. n ≤ c.loop-index.index) c.len-index-end.ensures.len c.loop-index-test.false)) c.loop-index.invariant

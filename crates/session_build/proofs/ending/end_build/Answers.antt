@@ -4,7 +4,7 @@ use Rattle.session_law.specs.Builds.{build_status}
 use Rattle.session_law.specs.IsFramed.{IsFramed}
 use Rattle.session_law.specs.Tasks.{build_finishes}
 use Rattle.session_build.specs.Ending.{targets_reported}
-use Rattle.session_build.specs.Outgoing.{outgoing_said}
+use Rattle.build_messages.specs.Outgoing.{outgoing_said}
 use Rattle.session_build.specs.Tallies.{has_errors}
 use Rattle.session_build.proofs.CourseSteps.{finish_told}
 use Rattle.session_build.proofs.TellLaws.{said_push, tells_push}

@@ -2,8 +2,8 @@ use Rattle.std.proofs.Common.{◌≡◌, ◌+◌, [], ◌∷◌, ℕ, List, refl
 use Rattle.rpc_peer.specs.Said.{Said}
 use Rattle.session_law.specs.IsFramed.{IsFramed}
 use Rattle.session_law.specs.Tasks.{build_starts, target_starts}
-use Rattle.session_build.specs.Outgoing.{outgoing_said}
-use Rattle.session_build.specs.Telling.{Tells, starts_from}
+use Rattle.build_messages.specs.Outgoing.{outgoing_said}
+use Rattle.session_build.specs.Telling.{TellsBehind, starts_from}
 use Rattle.session_build.proofs.CourseSteps.{start_told}
 use Rattle.session_build.proofs.TellLaws.{said_push, starts_more, tells_none, tells_push}
 use Rattle.target_graph.specs.Workspace.{Space, id_of}
@@ -31,7 +31,7 @@ loop-before-preserved c =
     ∙ ap (λ (ts : List ℕ). id_of at.workspace.value (get_or ts k 0)) c.as_slice-targets.ensures.keys) in
     let m = target_starts at.number (k + 1) (id_of at.workspace.value (get_or keys k 0)) in
     let said = c.in_ok-start.ensures.said ∙ ap (λ (i : List ℕ). target_starts at.number (k + 1) i) id in
-    subst (λ (told : List Said). Tells (first ∷ told) (map outgoing_said c.args.out.now.items) (map outgoing_said c.push_back-in-loop-before.new.self.items))
+    subst (λ (told : List Said). TellsBehind (first ∷ told) (map outgoing_said c.args.out.now.items) (map outgoing_said c.push_back-in-loop-before.new.self.items))
     (sym (starts_more at keys k 0 (let h = c.loop-before-test.true in omega (arith, size, h))))
     (tells_push (first ∷ starts_from at 1 (take k keys)) (map outgoing_said c.args.out.now.items) (map outgoing_said c.loop-before.out.items)
     (map outgoing_said c.push_back-in-loop-before.new.self.items) m

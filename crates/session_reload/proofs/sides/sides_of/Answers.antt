@@ -5,10 +5,10 @@ use Rattle.std.specs.Option.{option_or}
 use Rattle.std.proofs.lemmas.List.{take_more, take_all}
 use Rattle.target_graph.specs.declared.target.Target.{Target}
 use Rattle.reload_rules.specs.Changes.{with_name}
-use Rattle.session_reload.specs.Sides.{HasSides, same_name, side_at}
+use Rattle.session_reload.specs.Sides.{same_name, side_at}
 use Rattle.session_reload.specs.declared.sides.Side.{Side}
 use Rattle.session_reload.proofs.NameLaws.{with_more, with_none}
-use Rattle.session_reload.proofs.SideLaws.{are_sides, no_sides, put_more}
+use Rattle.session_reload.proofs.SideLaws.{HasSides, are_sides, no_sides, put_more}
 use Rattle.session_reload.proofs.sides.sides_of.Goals as goal
 
 pub loop-target-init : goal.loop-target-init

@@ -1,5 +1,6 @@
 use Rattle.std.proofs.Common.{◌+◌, ◌≤◌, [], take, length}
-use Rattle.session_reload.specs.Sides.{HasSides, IsInOrder}
+use Rattle.session_reload.specs.Sides.{IsInOrder}
+use Rattle.session_reload.proofs.SideLaws.{HasSides}
 use Rattle.session_reload.proofs.sides.sides_of.Given as goal
 
 abbrev pub invariant-loop-target : goal.invariant-loop-target

@@ -1,5 +1,5 @@
 use Rattle.std.proofs.Common.{◌∙◌, ◌∷◌, rules}
-use Rattle.session_build.specs.Outgoing.{outgoing_said}
+use Rattle.build_messages.specs.Outgoing.{outgoing_said}
 use Rattle.session_law.specs.Order.{write}
 use Rattle.bsp_cli.proofs.WritingLaws.{flushes_more, halts_by}
 use Rattle.bsp_cli.proofs.responder.Responder.flush.Goals as goal

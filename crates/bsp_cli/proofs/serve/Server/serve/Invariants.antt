@@ -6,7 +6,7 @@ use Rattle.session_core.specs.Standing.{StandsFor}
 use Rattle.session_core.specs.State.{rest_of}
 use Rattle.bsp_cli.specs.Outside.{heard, told}
 use Rattle.bsp_cli.specs.Shares.{Shares}
-use Rattle.bsp_cli.specs.Places.{IsAt}
+use Rattle.bsp_cli.specs.Offsets.{IsAt}
 use Rattle.bsp_cli.specs.Progress.{IsReady, Progress, fed}
 use Rattle.bsp_cli.proofs.serve.Server.serve.Given as goal
 

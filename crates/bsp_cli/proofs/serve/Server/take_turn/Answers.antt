@@ -4,7 +4,7 @@ use Rattle.rpc_frame.specs.declared.damage.Damage.{Damage}
 use Rattle.rpc_frame.specs.Damages.{HasDamage}
 use Rattle.rpc_frame.proofs.DamageLaws.{damage_broken}
 use Rattle.rpc_frame.proofs.FrameLaws.{broken_not_sound}
-use Rattle.bsp_cli.specs.Places.{EndsInLast, IsAt, WhereTold}
+use Rattle.bsp_cli.specs.Offsets.{EndsInLast, IsAt, WhereTold}
 use Rattle.bsp_cli.specs.Progress.{IsWithin, MayEnd, fed}
 use Rattle.bsp_cli.specs.declared.outcome.Ending.{Ending}
 use Rattle.bsp_cli.specs.declared.outcome.Ending.TheVariants.{Damaged}

@@ -15,9 +15,10 @@ use Rattle.session_law.specs.Tasks.{build_starts}
 use Rattle.session_law.specs.Verdicts.{IsBare}
 use Rattle.session_law.specs.declared.BuildDocument.{BuildDocument}
 use Rattle.session_law.proofs.ListLaws.{contains_none}
-use Rattle.session_build.specs.Documents.{build_of, requested}
+use Rattle.build_messages.specs.Documents.{build_of}
+use Rattle.session_build.specs.Documents.{requested}
 use Rattle.session_build.specs.Going.{Goes, IsGoing, IsJob}
-use Rattle.session_build.specs.Outgoing.{outgoing_said}
+use Rattle.build_messages.specs.Outgoing.{outgoing_said}
 use Rattle.session_build.specs.Remembering.{Remembers}
 use Rattle.session_build.specs.Setting.{IsSettingOf}
 use Rattle.session_build.specs.Stages.{SameMembers}

@@ -3,10 +3,10 @@ use Rattle.std.specs.List.{AllPairs}
 use Rattle.rpc_peer.specs.Said.{Said}
 use Rattle.session_build.specs.Cancels.{cancels_said}
 use Rattle.session_build.specs.Going.{pairs_made}
-use Rattle.session_build.specs.Outgoing.{outgoing_said}
+use Rattle.build_messages.specs.Outgoing.{outgoing_said}
 use Rattle.session_build.specs.Remembering.{Remembers}
 use Rattle.session_build.specs.Storing.{StoresAll}
-use Rattle.session_build.specs.Telling.{Tells}
+use Rattle.session_build.specs.Telling.{TellsBehind}
 use Rattle.session_build.specs.declared.going.Job.{Job}
 use Rattle.session_build.proofs.BareSteps.{cancels_bare}
 use Rattle.session_build.proofs.CancellingLaws.{cancelled_remembers, cancels, shows_either}
@@ -21,8 +21,8 @@ returns c =
     let kept = c.args.kept.now in
     let first : List Said = map outgoing_said c.args.out.now.items in
     let last : List Said = map outgoing_said c.cancel_build.new.out.items in
-    let tells : Tells (cancels_said at jobs) first last =
-    subst (λ (js : List Job). Tells (cancels_said at js) first last) c.as_slice.ensures.value c.in_ok-cancel_build.ensures.tells in
+    let tells : TellsBehind (cancels_said at jobs) first last =
+    subst (λ (js : List Job). TellsBehind (cancels_said at js) first last) c.as_slice.ensures.value c.in_ok-cancel_build.ensures.tells in
     record {
       own = cancels_said at jobs;
       tells = tells;

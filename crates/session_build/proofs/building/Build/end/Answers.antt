@@ -4,10 +4,10 @@ use Rattle.rpc_peer.specs.Said.{Said}
 use Rattle.session_build.specs.Building.{IsBuilt}
 use Rattle.session_build.specs.Ending.{ends_said}
 use Rattle.session_build.specs.Going.{pairs_made}
-use Rattle.session_build.specs.Outgoing.{outgoing_said}
+use Rattle.build_messages.specs.Outgoing.{outgoing_said}
 use Rattle.session_build.specs.Storing.{StoresAll}
 use Rattle.session_build.specs.Tallies.{has_errors}
-use Rattle.session_build.specs.Telling.{Tells}
+use Rattle.session_build.specs.Telling.{TellsBehind}
 use Rattle.session_build.specs.declared.tally.Tally.{Tally}
 use Rattle.session_build.proofs.BareSteps.{ends_bare}
 use Rattle.session_build.proofs.BuiltLaws.{built}
@@ -22,7 +22,7 @@ returns c =
     let same : c.as_slice.result.now ≡ tallies = c.as_slice.ensures.value in
     let first : List Said = map outgoing_said c.args.out.now.items in
     let last : List Said = map outgoing_said c.end_build.new.out.items in
-    let tells : Tells (ends_said at tallies) first last = subst (λ (ts : List Tally). Tells (ends_said at ts) first last) same c.in_ok-failed.ensures.tells in
+    let tells : TellsBehind (ends_said at tallies) first last = subst (λ (ts : List Tally). TellsBehind (ends_said at ts) first last) same c.in_ok-failed.ensures.tells in
     let failed : c.in_ok-failed.failed ≡ list_any has_errors tallies = c.in_ok-failed.ensures.failed ∙ ap (list_any has_errors) same in
     record {
       own = ends_said at tallies;

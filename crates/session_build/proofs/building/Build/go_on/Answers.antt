@@ -1,5 +1,5 @@
 use Rattle.std.proofs.Common.{List, length, map, ap, arith}
-use Rattle.session_build.specs.Outgoing.{outgoing_said}
+use Rattle.build_messages.specs.Outgoing.{outgoing_said}
 use Rattle.session_build.specs.declared.going.Job.{Job}
 use Rattle.session_build.proofs.JobLaws.{none_left}
 use Rattle.session_build.proofs.PausedLaws.{ended, waits}

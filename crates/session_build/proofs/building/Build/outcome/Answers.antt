@@ -1,7 +1,7 @@
 use Rattle.std.proofs.Common.{List, map, refl, subst}
 use Rattle.std.specs.List.{Contains}
 use Rattle.session_build.specs.Going.{numbers_of}
-use Rattle.session_build.specs.Outgoing.{outgoing_said}
+use Rattle.build_messages.specs.Outgoing.{outgoing_said}
 use Rattle.session_build.specs.declared.going.Job.{Job}
 use Rattle.session_law.proofs.ListLaws.{contains_map}
 use Rattle.session_build.proofs.PausedLaws.{gone_on, leaves, rests_of}

@@ -11,20 +11,20 @@ use Rattle.session_build.proofs.going.Going.begin.Goals as goal
 pub returns : goal.returns
 returns c =
     let at = c.args.at.now in
-    let place = c.place_of-place.result in
+    let index = c.document_index-index.result in
     let number = c.in-Some.number in
     let target = c.target_of-target.result in
     let document : BuildDocument = build_document at.workspace.value c.args.pair in
     let documents : List BuildDocument = c.as_slice-documents.result.now in
-    let here : get_or documents place c.index-documents-place.result ≡ document =
-    get_or_from_slice_get documents place document c.index-documents-place.result
-    (subst (λ (ds : List BuildDocument). slice_get ds place ≡ Some document) (sym c.as_slice-documents.ensures) c.place_of-place.ensures) in
+    let here : get_or documents index c.index-documents-index.result ≡ document =
+    get_or_from_slice_get documents index document c.index-documents-index.result
+    (subst (λ (ds : List BuildDocument). slice_get ds index ≡ Some document) (sym c.as_slice-documents.ensures) c.document_index-index.ensures) in
     let address = ap (λ (d : BuildDocument). check_starts at.number number target d.key.document) here in
     let said = c.in_ok-start.ensures.said ∙ address in
     record {
-      job = record { pair = c.args.pair; place = place; target = target; number = number; imports = c.args.imports };
+      job = record { pair = c.args.pair; document_index = index; target = target; number = number; imports = c.args.imports };
       pair_is = refl;
-      there = c.place_of-place.ensures;
+      there = c.document_index-index.ensures;
       of_target = c.target_of-target.ensures;
       number_is = omega (arith, c.in-Some.ensures);
       imports_are = refl;

@@ -9,7 +9,7 @@ use Rattle.session_law.specs.IsFramed.{IsFramed}
 use Rattle.session_law.specs.declared.BuildDocument.{BuildDocument}
 use Rattle.session_law.specs.Tasks.{check_finishes}
 use Rattle.session_build.specs.Going.{IsJob}
-use Rattle.session_build.specs.Outgoing.{outgoing_said}
+use Rattle.build_messages.specs.Outgoing.{outgoing_said}
 use Rattle.session_build.proofs.GoesLaws.{goes_by}
 use Rattle.session_build.proofs.SoundLaws.{finish_sound}
 use Rattle.session_build.proofs.TellLaws.{said_push}

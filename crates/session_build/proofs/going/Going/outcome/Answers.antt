@@ -8,7 +8,7 @@ use Rattle.build_checks.specs.declared.checks.Checks.{Checks}
 use Rattle.build_rules.specs.Locality.{IsApart}
 use Rattle.build_rules.specs.World.{World}
 use Rattle.session_build.specs.Going.{AreSound, KeepsViews, NoneCanBeTaken, TakesOut}
-use Rattle.session_build.specs.Outgoing.{outgoing_said}
+use Rattle.build_messages.specs.Outgoing.{outgoing_said}
 use Rattle.session_build.specs.declared.going.Going.{Going}
 use Rattle.session_build.specs.declared.going.Job.{Job}
 use Rattle.session_build.proofs.GoesLaws.{outcome_goes}

@@ -4,7 +4,7 @@ use Rattle.std.specs.declared.alloc.Global.{Global}
 use Rattle.std.specs.List.{Contains}
 use Rattle.build_checks.specs.Looked.{IsFound, IsLacked}
 use Rattle.build_checks.specs.Stand.{world_of}
-use Rattle.session_build.specs.Outgoing.{outgoing_said}
+use Rattle.build_messages.specs.Outgoing.{outgoing_said}
 use Rattle.session_build.specs.declared.going.Job.{Job}
 use Rattle.session_build.proofs.GoesLaws.{goes_hit, goes_idle, goes_miss}
 use Rattle.session_build.proofs.GoingLaws.{Came, none_still}

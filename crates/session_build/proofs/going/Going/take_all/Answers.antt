@@ -1,5 +1,5 @@
 use Rattle.std.proofs.Common.{map, refl, arith}
-use Rattle.session_build.specs.Outgoing.{outgoing_said}
+use Rattle.build_messages.specs.Outgoing.{outgoing_said}
 use Rattle.session_build.proofs.GoesLaws.{goes_on, goes_start}
 use Rattle.session_build.proofs.JobLaws.{keeps_same, starts_on, starts_same}
 use Rattle.task_stream.specs.Showing.{shows}

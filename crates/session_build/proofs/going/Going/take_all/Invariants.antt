@@ -1,6 +1,6 @@
 use Rattle.std.proofs.Common.{◌≤◌, map}
 use Rattle.session_build.specs.Going.{Goes, IsSound, StartsMore, all_left}
-use Rattle.session_build.specs.Outgoing.{outgoing_said}
+use Rattle.build_messages.specs.Outgoing.{outgoing_said}
 use Rattle.task_stream.specs.Showing.{shows}
 use Rattle.session_build.proofs.going.Going.take_all.Given as goal
 

@@ -1,13 +1,14 @@
 use Rattle.std.proofs.Common.{◌∷◌, [], Some, true, ap, subst}
 use Rattle.std.proofs.lemmas.Result.{on_err_weaker, on_ok_weaker}
-use Rattle.session_core.proofs.Ready.{end_lost, ended, null_whole}
+use Rattle.session_core.proofs.Ready.{end_lost, ended, null_whole, IsReady}
 use Rattle.session_core.proofs.Requests.{lost_behind, ready}
+use Rattle.session_core.proofs.Draining.{stays_on}
 use Rattle.session_core.proofs.Resting.{head_gone}
 use Rattle.session_core.proofs.Settling.{on_err_any, on_ok_both}
-use Rattle.session_core.specs.Acting.{IsReady}
 use Rattle.session_core.specs.Marking.{marked}
 use Rattle.session_core.specs.Moving.{LosesAll, SettlesAll}
 use Rattle.session_core.specs.Standing.{Whole}
+use Rattle.session_core.specs.State.{rest_of}
 use Rattle.session_core.specs.declared.session.Core.{Core}
 use Rattle.session_law.specs.Order.{ends}
 use Rattle.session_law.specs.Past.{end_status, nulls_for_end}
@@ -74,3 +75,17 @@ returns-in-Border-clause-bare c = record { is = c.in_ok-cancel_all.ensures.bare.
 
 pub returns-in-Failed-clause-bare : goal.returns-in-Failed-clause-bare
 returns-in-Failed-clause-bare c = record { is = c.in_ok-cancel_all.ensures.bare.is }
+
+pub returns-in-Damaged-clause-drains : goal.returns-in-Damaged-clause-drains
+returns-in-Damaged-clause-drains c =
+    let new = c.refuse.new.self in
+    let same = c.refuse.ensures.same in
+    on_ok_weaker c.refuse.result
+    (λ said. stays_on (rest_of c.args.self.now) (rest_of c.cancel_all.new.self) (rest_of new) c.in_ok-cancel_all.ensures.rest.stays (ap (λ (core : Core). core.head) same) (ap (λ (core : Core). core.drains) same))
+    c.refuse.ensures.said
+
+pub returns-in-Border-clause-drains : goal.returns-in-Border-clause-drains
+returns-in-Border-clause-drains c = c.in_ok-cancel_all.ensures.rest.stays
+
+pub returns-in-Failed-clause-drains : goal.returns-in-Failed-clause-drains
+returns-in-Failed-clause-drains c = c.in_ok-cancel_all.ensures.rest.stays

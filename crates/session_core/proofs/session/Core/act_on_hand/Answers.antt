@@ -17,7 +17,7 @@ use Rattle.session_core.specs.declared.head.Phase.{Phase}
 use Rattle.session_core.specs.declared.session.Core.{Core}
 use Rattle.session_law.specs.Methods.{asking, building, rereading}
 use Rattle.session_law.specs.Order.{hand}
-use Rattle.session_core.specs.Plans.{build_in}
+use Rattle.session_verdicts.specs.Plans.{build_in}
 use Rattle.session_law.specs.Requests.{handed_over}
 use Rattle.session_core.proofs.Bare.{bare_call}
 use Rattle.session_core.proofs.session.Core.act_on_hand.Goals as goal

@@ -1,7 +1,7 @@
 use Rattle.std.proofs.Common.{◌++◌, ◌∷◌, [], ap, refl, ◌∙◌}
 use Rattle.std.proofs.lemmas.Result.{on_ok_weaker}
 use Rattle.session_core.proofs.Moving.{call_silent, framed_call, says_cancelled}
-use Rattle.session_core.specs.Judging.{queued_call}
+use Rattle.session_verdicts.specs.Judging.{queued_call}
 use Rattle.session_law.specs.Past.{notice_in}
 use Rattle.session_core.specs.State.{asked_of, said_out}
 use Rattle.session_core.proofs.session.Core.answer_cancelled.Goals as goal

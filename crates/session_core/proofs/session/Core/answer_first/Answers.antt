@@ -2,10 +2,10 @@ use Rattle.std.proofs.Common.{◌≡◌, Some, ap, ◌∙◌, subst}
 use Rattle.rpc_peer.specs.Said.{result}
 use Rattle.std.proofs.lemmas.Result.{on_ok_weaker}
 use Rattle.session_core.proofs.Moving.{says_first}
-use Rattle.session_core.specs.Judging.{Fits}
+use Rattle.session_verdicts.specs.Judging.{Fits}
 use Rattle.session_core.specs.State.{plain_of}
 use Rattle.session_core.specs.declared.session.Core.{Core}
-use Rattle.session_core.specs.declared.verdicts.Answer.TheVariants as answers
+use Rattle.session_verdicts.specs.declared.verdicts.Answer.TheVariants as answers
 use Rattle.session_core.proofs.session.Core.answer_first.Goals as goal
 
 pub returns-in_ok-say-in-Opening-clause-ok : goal.returns-in_ok-say-in-Opening-clause-ok

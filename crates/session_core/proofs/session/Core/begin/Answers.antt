@@ -4,13 +4,13 @@ use Rattle.std.proofs.lemmas.Result.{on_ok_weaker}
 use Rattle.bsp_records.specs.Limits.{origin_limit}
 use Rattle.json_shape.specs.Shapes.{IsTextWithin}
 use Rattle.session_build.specs.AtWork.{HasBegun}
-use Rattle.session_build.specs.Outgoing.{outgoing_said}
+use Rattle.build_messages.specs.Outgoing.{outgoing_said}
 use Rattle.session_build.specs.declared.building.BuildRequest.{BuildRequest}
 use Rattle.session_core.proofs.Bare.{told_bare}
 use Rattle.session_core.proofs.Giving.{went_keeps}
 use Rattle.session_core.specs.Building.{request_for}
 use Rattle.session_core.specs.Handing.{HasWent}
-use Rattle.session_core.specs.Plans.{Plan}
+use Rattle.session_verdicts.specs.Plans.{Plan}
 use Rattle.session_core.specs.declared.session.Core.{Core}
 use Rattle.session_core.proofs.session.Core.begin.Goals as goal
 use Rattle.task_stream.specs.Showing.{shows}

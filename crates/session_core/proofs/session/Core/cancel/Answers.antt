@@ -3,6 +3,7 @@ use Rattle.std.proofs.lemmas.Result.{on_err_weaker, on_ok_weaker}
 use Rattle.rpc_peer.specs.OpenIds.{same_id}
 use Rattle.session_core.proofs.Ready.{texts_marked}
 use Rattle.session_core.proofs.Resting.{sound_marked}
+use Rattle.session_core.proofs.Draining.{cancel_drains}
 use Rattle.session_core.proofs.Settling.{on_err_any}
 use Rattle.session_core.specs.Moving.{LosesAll, QueueTexts, SettlesAll}
 use Rattle.session_core.specs.declared.session.Core.{Core}
@@ -42,3 +43,12 @@ returns-clause-bare c =
     bare_after old settled c.take_up_next.new.self c.take_up_next.result
     (bare_on old c.mark.new.self settled (bare_same old c.mark.new.self (ap (λ (core : Core). core.out) c.mark.ensures)) c.in_ok-settle.ensures.bare)
     c.take_up_next.ensures.bare
+
+pub returns-clause-drains : goal.returns-clause-drains
+returns-clause-drains c =
+    let old = c.args.self.now in
+    let settled = c.settle.new.self in
+    let did = c.in_ok-settle.ensures in
+    on_ok_weaker c.take_up_next.result
+    (λ stays. cancel_drains (same_id c.args.id.now) old settled c.take_up_next.new.self c.requires.settled.sound.goes_on did.goes_on.head stays c.take_up_next.ensures.drains c.mark.new.self c.mark.ensures did.rest)
+    c.take_up_next.ensures.build

@@ -3,7 +3,7 @@ use Rattle.reload_messages.specs.Told.{HasTold}
 use Rattle.rpc_peer.specs.Said.{result}
 use Rattle.serde_json.specs.Data.{null}
 use Rattle.session_build.specs.Cleaning.{HasReloaded}
-use Rattle.session_build.specs.Outgoing.{outgoing_said}
+use Rattle.build_messages.specs.Outgoing.{outgoing_said}
 use Rattle.session_build.specs.declared.kept.Kept.{Kept}
 use Rattle.session_core.proofs.Bare.{bare_told}
 use Rattle.session_core.proofs.Reloaded.{reloads_to, said_behind}

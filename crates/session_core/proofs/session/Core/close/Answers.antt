@@ -1,11 +1,13 @@
 use Rattle.std.proofs.Common.{ap, subst, sym}
 use Rattle.std.specs.Prelude.{Option}
 use Rattle.std.proofs.lemmas.Result.{on_err_weaker, on_ok_weaker}
+use Rattle.session_core.proofs.Draining.{stays_on}
 use Rattle.session_core.proofs.Requests.{answered_whole, lost_behind}
 use Rattle.session_core.proofs.Settling.{on_err_any, on_ok_both}
 use Rattle.session_core.specs.Standing.{IsUpHead}
-use Rattle.session_core.specs.State.{Rest}
+use Rattle.session_core.specs.State.{Rest, rest_of}
 use Rattle.session_core.specs.declared.head.Head.{Head}
+use Rattle.session_core.specs.declared.session.Core.{Core}
 use Rattle.session_law.specs.Methods.{closing}
 use Rattle.session_core.proofs.Bare.{bare_after}
 use Rattle.session_core.proofs.session.Core.close.Goals as goal
@@ -31,3 +33,11 @@ returns-clause-lost c =
 
 pub returns-clause-bare : goal.returns-clause-bare
 returns-clause-bare c = bare_after c.args.self.now c.cancel_all.new.self c.answer_last.new.self c.answer_last.result c.in_ok-cancel_all.ensures.bare c.answer_last.ensures.bare
+
+pub returns-clause-drains : goal.returns-clause-drains
+returns-clause-drains c =
+    let same = c.answer_last.ensures.same in
+    on_ok_weaker c.answer_last.result
+    (λ notices. stays_on (rest_of c.args.self.now) (rest_of c.cancel_all.new.self) (rest_of c.answer_last.new.self) c.in_ok-cancel_all.ensures.rest.stays (ap (λ (core : Core). core.head) same)
+    (ap (λ (core : Core). core.drains) same))
+    c.answer_last.ensures.notices

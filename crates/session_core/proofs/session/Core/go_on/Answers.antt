@@ -1,7 +1,7 @@
 use Rattle.std.proofs.Common.{[], map, ap, subst}
 use Rattle.std.proofs.lemmas.Result.{on_ok_weaker}
 use Rattle.session_build.specs.AtWork.{HasGoneOn}
-use Rattle.session_build.specs.Outgoing.{outgoing_said}
+use Rattle.build_messages.specs.Outgoing.{outgoing_said}
 use Rattle.session_core.proofs.Giving.{went_keeps}
 use Rattle.session_core.specs.Handing.{HasWent}
 use Rattle.session_core.specs.declared.session.Core.{Core}

@@ -1,6 +1,6 @@
 use Rattle.std.proofs.Common.{map, refl}
 use Rattle.std.proofs.lemmas.Result.{on_ok_weaker}
-use Rattle.session_build.specs.Outgoing.{outgoing_said}
+use Rattle.build_messages.specs.Outgoing.{outgoing_said}
 use Rattle.session_core.proofs.Bare.{bare_told}
 use Rattle.session_law.specs.Builds.{build_said}
 use Rattle.session_core.proofs.session.Core.go_with.Goals as goal

@@ -4,10 +4,10 @@ use Rattle.std.proofs.lemmas.Result.{on_err_weaker, on_ok_weaker}
 use Rattle.serde_json.specs.View.{view}
 use Rattle.session_core.proofs.Notes.{acts_cancel, acts_exit, acts_other, acts_unnamed, loses_cancel, loses_exit}
 use Rattle.session_core.proofs.Requests.{ready}
-use Rattle.session_core.specs.Acting.{IsReady}
 use Rattle.session_law.specs.Methods.{is_named}
 use Rattle.session_core.proofs.Bare.{bare_call}
 use Rattle.session_core.proofs.session.Core.heed.Goals as goal
+use Rattle.session_core.proofs.Ready.{IsReady}
 
 pub returns-then-eq-clause-ok : goal.returns-then-eq-clause-ok
 returns-then-eq-clause-ok c =
@@ -72,3 +72,6 @@ returns-in_default-clause-bare c = record { is = λ bare. bare }
 
 pub returns-else-eq-2-clause-bare : goal.returns-else-eq-2-clause-bare
 returns-else-eq-2-clause-bare c = record { is = λ bare. bare }
+
+pub returns-then-eq-clause-drains : goal.returns-then-eq-clause-drains
+returns-then-eq-clause-drains c = on_ok_weaker c.cancel_all.result (λ none. none.stays) c.cancel_all.ensures.rest

@@ -1,7 +1,9 @@
 use Rattle.std.proofs.lemmas.Result.{on_ok_weaker}
 use Rattle.session_core.proofs.Bare.{bare_quiet}
 use Rattle.session_core.proofs.Calls.{awaits_stays, back_stays, stands_behind}
+use Rattle.session_core.proofs.Draining.{drains_cancelled}
 use Rattle.session_core.proofs.Giving.{settled_noting}
+use Rattle.session_core.proofs.Settling.{on_ok_both}
 use Rattle.session_core.specs.State.{rest_of}
 use Rattle.session_law.specs.Order.{take}
 use Rattle.session_core.proofs.session.Core.message.Goals as goal
@@ -27,3 +29,13 @@ returns-clause-awaits c =
     on_ok_weaker c.act-acted.result
     (λ stays. awaits_stays (rest_of c.args.self.now) (record (rest_of c.act-acted.new.self) { dead = c.is_err-self.result }) stays c.act-acted.ensures.jobs.jobs c.act-acted.ensures.jobs.given)
     c.act-acted.ensures.stays
+
+pub returns-clause-drains : goal.returns-clause-drains
+returns-clause-drains c =
+    let old = c.args.self.now in
+    let acted = c.act-acted.new.self in
+    let did = c.act-acted.ensures in
+    on_ok_weaker c.act-acted.result
+    (λ both. drains_cancelled (rest_of old) (record (rest_of acted) { dead = c.is_err-self.result }) c.requires.settled c.requires.needs c.requires.up (settled_noting (rest_of acted) c.is_err-self.result both.0)
+    did.jobs.jobs did.jobs.given both.1)
+    (on_ok_both _ _ c.act-acted.result did.settled did.drains)

@@ -1,8 +1,8 @@
 use Rattle.std.proofs.Common.{◌≡◌, ◌<◌, ◌+◌, ◌-◌, suc, refl, ap, sym, subst, arith}
 use Rattle.session_build.specs.AtWork.{IsOwnWork, Runs, begun_in}
-use Rattle.session_core.proofs.Giving.{job_given, number_runs}
+use Rattle.session_core.proofs.Giving.{job_awaited, job_given, number_runs}
 use Rattle.session_core.proofs.session.Core.next_job.Goals as goal
-use Rattle.session_core.specs.Settled.{IsBack}
+use Rattle.session_core.specs.Settled.{Awaits, IsBack}
 use Rattle.session_core.specs.State.{Rest, rest_of}
 use Rattle.worker_pool.specs.Jobs.{JobTree, check_work, plain_check}
 
@@ -27,4 +27,5 @@ returns-clause-needed c =
     let own : IsOwnWork c.in-Built.build (suc (rest.given - rest.jobs)) (plain_check c.in_ok-work.field-0)
     = subst (λ n. IsOwnWork c.in-Built.build n (plain_check c.in_ok-work.field-0)) number c.in_ok-work.ensures.own in
     let back = job_given rest c.requires.settled c.in-Some.head c.in-Built.build c.in-Built.field-1 c.in-Some.is c.in-Built.is more job refl own in
-    (refl, below, subst (λ n. IsBack (record rest { given = n }) job) given back, ap (λ n. record rest { given = n }) (sym given))
+    let awaited = job_awaited rest c.requires.settled c.in-Some.head c.in-Built.build c.in-Built.field-1 c.in-Some.is c.in-Built.is more in
+    (refl, below, subst (λ n. IsBack (record rest { given = n }) job) given back, ap (λ n. record rest { given = n }) (sym given), subst (λ n. Awaits (record rest { given = n }) rest.given) given awaited)

@@ -1,4 +1,4 @@
-use Rattle.std.proofs.Common.{[], ap, subst, sym}
+use Rattle.std.proofs.Common.{[], ap, inl, subst, sym, ◌∙◌}
 use Rattle.std.specs.Prelude.{Option}
 use Rattle.std.proofs.lemmas.Result.{on_err_weaker, on_ok_weaker}
 use Rattle.session_core.proofs.Needing.{jobs_on}
@@ -6,7 +6,7 @@ use Rattle.session_core.proofs.Requests.{lost_behind, or_no}
 use Rattle.session_core.proofs.Resting.{goes_on, sound_behind}
 use Rattle.session_core.proofs.Settling.{on_err_any}
 use Rattle.session_core.specs.Acting.{is_head}
-use Rattle.session_core.specs.Settled.{HeadStays}
+use Rattle.session_core.specs.Settled.{BuildStays, HeadStays}
 use Rattle.session_core.specs.Standing.{IsUpHead}
 use Rattle.session_core.specs.declared.head.Head.{Head}
 use Rattle.session_core.specs.declared.session.Core.{Core}
@@ -49,3 +49,10 @@ returns-in_err-wait-clause-lost c =
 
 pub returns-clause-bare : goal.returns-clause-bare
 returns-clause-bare c = bare_after c.args.self.now c.wait.new.self c.take_up_next.new.self c.take_up_next.result c.in_ok-wait.ensures.bare c.take_up_next.ensures.bare
+
+pub returns-clause-drains : goal.returns-clause-drains
+returns-clause-drains c =
+    let same = c.wait.ensures.same in
+    on_ok_weaker c.take_up_next.result
+    (λ stays. inl (subst (λ (h : Option Head). BuildStays h c.take_up_next.new.self.head) (ap (λ (core : Core). core.head) same) stays, c.take_up_next.ensures.drains ∙ ap (λ (core : Core). core.drains) same))
+    c.take_up_next.ensures.build

@@ -3,8 +3,9 @@ use Rattle.std.proofs.lemmas.Int.{to_z-of_z}
 use Rattle.std.proofs.lemmas.Result.{on_err_weaker, on_ok_weaker}
 use Rattle.session_core.proofs.Requests.{lost_numbered, ready, refuses}
 use Rattle.session_core.proofs.Settling.{on_ok_both}
-use Rattle.session_core.specs.Acting.{ActsOn, IsReady}
+use Rattle.session_core.specs.Acting.{ActsOn}
 use Rattle.session_core.proofs.session.Core.refuse_body.Goals as goal
+use Rattle.session_core.proofs.Ready.{IsReady}
 
 pub returns-clause-ok : goal.returns-clause-ok
 returns-clause-ok c =

@@ -3,7 +3,7 @@ use Rattle.std.proofs.lemmas.Result.{on_ok_weaker}
 use Rattle.session_core.proofs.Moving.{says_first}
 use Rattle.session_core.specs.State.{plain_of}
 use Rattle.session_core.specs.declared.session.Core.{Core}
-use Rattle.session_core.specs.declared.verdicts.Answer.TheVariants as answers
+use Rattle.session_verdicts.specs.declared.verdicts.Answer.TheVariants as answers
 use Rattle.session_core.proofs.session.Core.refuse_first.Goals as goal
 
 pub returns-clause-ok : goal.returns-clause-ok

@@ -1,8 +1,8 @@
 use Rattle.std.proofs.Common.{◌∷◌, [], map, ap, ◌∙◌}
 use Rattle.std.proofs.lemmas.List.{map-append}
 use Rattle.rpc_peer.specs.Said.{said}
-use Rattle.session_build.specs.Outgoing.{outgoing_said}
-use Rattle.session_build.specs.declared.outgoing.Outgoing.TheVariants as waiting
+use Rattle.build_messages.specs.Outgoing.{outgoing_said}
+use Rattle.build_messages.specs.declared.outgoing.Outgoing.TheVariants as waiting
 use Rattle.session_core.proofs.Moving.{notices_said}
 use Rattle.session_core.specs.State.{said_out}
 use Rattle.session_core.proofs.Bare.{bare_one}

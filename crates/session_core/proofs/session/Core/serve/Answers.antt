@@ -4,12 +4,12 @@ use Rattle.std.proofs.lemmas.Result.{on_err_weaker, on_ok_weaker}
 use Rattle.serde_json.specs.View.{view}
 use Rattle.session_core.proofs.Requests.{at_once, loses, loses_unclosing, lost_numbered, ready, serves, serves_again, serves_unclosing}
 use Rattle.session_core.proofs.Settling.{on_err_any, on_ok_both}
-use Rattle.session_core.specs.Acting.{IsReady}
-use Rattle.session_core.specs.Judging.{Judges, queued_call}
-use Rattle.session_core.specs.declared.verdicts.Owed.TheVariants as owing
+use Rattle.session_verdicts.specs.Judging.{Judges, queued_call}
+use Rattle.session_verdicts.specs.declared.verdicts.Owed.TheVariants as owing
 use Rattle.session_law.specs.Methods.{Verdict, asking, queued, verdict}
 use Rattle.session_core.proofs.Bare.{bare_call}
 use Rattle.session_core.proofs.session.Core.serve.Goals as goal
+use Rattle.session_core.proofs.Ready.{IsReady}
 
 pub returns-then-is_open-clause-ok : goal.returns-then-is_open-clause-ok
 returns-then-is_open-clause-ok c =

@@ -1,5 +1,6 @@
 use Rattle.std.proofs.Common.{ap, ◌∙◌, inl, inr, true}
 use Rattle.std.proofs.lemmas.Result.{on_ok_weaker}
+use Rattle.session_core.proofs.Draining.{is_some_head}
 use Rattle.session_core.proofs.SettledHead.{settles_head}
 use Rattle.session_core.specs.State.{Rest, rest_of}
 use Rattle.session_core.proofs.Bare.{bare_on, bare_same}
@@ -15,7 +16,7 @@ returns-in-Some-clause-ok c =
 
 pub returns-in-Some-clause-rest : goal.returns-in-Some-clause-rest
 returns-in-Some-clause-rest c =
-    on_ok_weaker c.cancel_build.result (λ is. inr (is ∙ ap (λ (r : Rest). record r { drains = true }) (ap rest_of c.in-Some.ensures.some.1))) c.cancel_build.ensures.rest
+    on_ok_weaker c.cancel_build.result (λ is. inr (is_some_head c.args.self.now.head _ c.in-Some.ensures.some.0.is, is ∙ ap (λ (r : Rest). record r { drains = true }) (ap rest_of c.in-Some.ensures.some.1))) c.cancel_build.ensures.rest
 
 pub returns-in-None-clause-rest : goal.returns-in-None-clause-rest
 returns-in-None-clause-rest c = inl (ap rest_of c.in-None.ensures.none.1)

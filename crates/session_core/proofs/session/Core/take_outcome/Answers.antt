@@ -1,8 +1,9 @@
 use Rattle.std.proofs.Common.{◌≡◌, ap, subst, sym, ◌∙◌}
 use Rattle.std.proofs.lemmas.Result.{on_err_weaker, on_ok_weaker}
 use Rattle.session_core.proofs.Continued.{build_rests, check_runs, check_work_is, continued, origin_short, was_head}
-use Rattle.session_core.proofs.Giving.{still_awaits, still_back, went_sound}
+use Rattle.session_core.proofs.Giving.{still_awaited, still_awaits, still_back, went_sound}
 use Rattle.session_core.proofs.Resting.{goes_on}
+use Rattle.session_core.proofs.Settling.{on_ok_both}
 use Rattle.session_core.specs.Building.{GoesOnBy, TookBuild}
 use Rattle.session_core.specs.declared.session.Core.{Core}
 use Rattle.worker_pool.specs.Outcomes.{OutcomeParts}
@@ -79,3 +80,16 @@ take_up_next-requires-clause-sound c =
     = subst (λ n. TookBuild old c.take_build.new.self n it) (sym (ap (λ (o : OutcomeParts). o.job.number) c.into_parts-job.ensures.parts)) c.in-Some.ensures.some in
     went_sound old c.go_on.new.self it (was_head old c.take_build.new.self (plain_job c.args.outcome.job) it took c.requires.settled c.requires.back) c.requires.settled.sound c.requires.needs
     (plain_check c.check_of.result) (subst (λ (core : Core). GoesOnBy core c.go_on.new.self it (plain_check c.check_of.result)) took.same c.in_ok-go_on.ensures.ok)
+
+pub returns-clause-others : goal.returns-clause-others
+returns-clause-others c =
+    let old = c.args.self.now in
+    let it = c.in-Some.found in
+    let took : TookBuild old c.take_build.new.self c.args.outcome.job.number it
+    = subst (λ n. TookBuild old c.take_build.new.self n it) (sym (ap (λ (o : OutcomeParts). o.job.number) c.into_parts-job.ensures.parts)) c.in-Some.ensures.some in
+    on_ok_weaker c.take_up_next.result
+    (λ both number awaits other.
+    still_awaited old c.go_on.new.self c.take_up_next.new.self it c.args.outcome.job.number (was_head old c.take_build.new.self (plain_job c.args.outcome.job) it took c.requires.settled c.requires.back) took.at took.some
+    (build_rests old c.take_build.new.self (plain_job c.args.outcome.job) it took c.requires.settled c.requires.back) c.requires.needs (plain_check c.check_of.result)
+    (subst (λ (core : Core). GoesOnBy core c.go_on.new.self it (plain_check c.check_of.result)) took.same c.in_ok-go_on.ensures.ok) both.0 c.take_up_next.ensures.beside.jobs both.1 number awaits other)
+    (on_ok_both _ _ c.take_up_next.result c.take_up_next.ensures.stays c.take_up_next.ensures.build)

@@ -2,14 +2,14 @@ use Rattle.std.proofs.Common.{ap, refl, subst, sym, ◌∙◌}
 use Rattle.std.specs.Prelude.{Option}
 use Rattle.std.proofs.lemmas.Result.{on_ok_weaker}
 use Rattle.session_core.proofs.TakingUp.{takes_cleaning, takes_plan, takes_refusal, takes_reread}
-use Rattle.session_core.specs.Judging.{Fits, IsCleaningOf, IsPlanOf, IsRereadOf, queued_call}
+use Rattle.session_verdicts.specs.Judging.{Fits, IsCleaningOf, IsPlanOf, IsRereadOf, queued_call}
 use Rattle.session_core.specs.Settled.{planned, reread}
 use Rattle.session_core.specs.Reloading.{Cleans}
 use Rattle.session_core.specs.Standing.{HeadGoesOn, HeadRests}
 use Rattle.session_core.specs.State.{rest_of}
 use Rattle.session_core.specs.declared.head.Head.{Head}
 use Rattle.session_core.specs.declared.session.Core.{Core}
-use Rattle.session_core.specs.declared.verdicts.Answer.TheVariants as answers
+use Rattle.session_verdicts.specs.declared.verdicts.Answer.TheVariants as answers
 use Rattle.session_law.specs.Methods.{taken_in}
 use Rattle.session_core.proofs.session.Core.take_up.Goals as goal
 

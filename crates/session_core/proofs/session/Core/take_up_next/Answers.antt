@@ -1,12 +1,13 @@
-use Rattle.std.proofs.Common.{◌≡◌, ◌<◌, ◌∷◌, inl, List, All, refl, subst, arith}
+use Rattle.std.proofs.Common.{◌≡◌, ◌<◌, ◌∷◌, inl, List, All, refl, subst, arith, ◌∙◌}
 use Rattle.std.proofs.lemmas.List.Elements.{All-head}
+use Rattle.session_core.proofs.Draining.{stays_taken_up}
 use Rattle.session_core.proofs.Settling.{on_err_any}
 use Rattle.session_core.proofs.Resting.{asking_taken, beside_on, goes_on, less_taken, some_begun, sound_taken, stays_taken}
 use Rattle.session_core.proofs.TakingUp.{carries_on, carries_one, head_none, loses_on, loses_one}
 use Rattle.session_core.specs.Moving.{HasWaitingTexts}
 use Rattle.session_core.specs.Settled.{left_to_do}
 use Rattle.session_core.specs.State.{rest_of}
-use Rattle.session_core.specs.declared.verdicts.Queued.{Queued}
+use Rattle.session_verdicts.specs.declared.verdicts.Queued.{Queued}
 use Rattle.session_queue.specs.declared.waiting.Waiting.{Waiting}
 use Rattle.session_core.proofs.session.Core.take_up_next.Goals as goal
 
@@ -16,6 +17,8 @@ waiting-init c = record {
   sound = c.requires.sound;
   asking = c.requires.asking;
   stays = inl refl;
+  build = inl refl;
+  drains = refl;
   no_more = omega arith;
   bare = record { is = λ bare. bare };
   beside = record { taken = refl; status = refl; workspace = refl; closed = refl; dead = refl; jobs = record { jobs = refl; given = refl } };
@@ -52,6 +55,8 @@ waiting-preserved c =
       sound = sound_taken (rest_of x) (rest_of y) waiting queue it.sound nobody was did.rest;
       asking = asking_taken (rest_of x) (rest_of y) waiting queue it.sound nobody was did.rest;
       stays = stays_taken (rest_of x) (rest_of y) waiting queue it.sound nobody was c.args.self.now.head did.rest;
+      build = stays_taken_up c.args.self.now.head x.head y.head it.build nobody;
+      drains = did.drains ∙ it.drains;
       no_more = omega (arith, it.no_more, less);
       bare = record { is = λ bare. did.bare.is (it.bare.is bare) };
       beside = beside_on c.args.self.now (record x { queue = queue }) y

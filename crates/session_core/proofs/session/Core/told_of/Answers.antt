@@ -1,7 +1,7 @@
 use Rattle.std.proofs.Common.{◌≡◌, List, Some, map, ap, subst, sym, ◌∙◌}
 use Rattle.reload_messages.proofs.ToldLaws.{reload_bare}
 use Rattle.rpc_peer.specs.Said.{Said}
-use Rattle.session_build.specs.Outgoing.{outgoing_said}
+use Rattle.build_messages.specs.Outgoing.{outgoing_said}
 use Rattle.session_core.proofs.Bare.{told_bare}
 use Rattle.task_stream.specs.Showing.{shows}
 use Rattle.session_build.specs.Cleaning.{HasReloaded}

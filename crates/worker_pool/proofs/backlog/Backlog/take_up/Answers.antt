@@ -8,8 +8,8 @@ use Rattle.worker_pool.proofs.backlog.Backlog.take_up.Goals as goal
 pub returns : goal.returns
 returns c =
     let job = c.unwrap-job.result in
-    let within : c.args.place < deque_len c.args.self.now.waiting = omega arith in
-    let at : job ≡ get_or c.args.self.now.waiting.items c.args.place job = cc (c.remove.ensures.succeeds job within) in
+    let within : c.args.index < deque_len c.args.self.now.waiting = omega arith in
+    let at : job ≡ get_or c.args.self.now.waiting.items c.args.index job = cc (c.remove.ensures.succeeds job within) in
     let others = on_some c.remove.result job c.unwrap-job.ensures c.remove.ensures.items in
     record {
       finished = refl;
@@ -18,8 +18,8 @@ returns c =
       collected = refl;
       drained = refl;
       job = plain_job job;
-      there = taken c.args.self.now.hand c.args.self.now.waiting.items c.args.place job c.requires.free c.requires.place at;
+      there = taken c.args.self.now.hand c.args.self.now.waiting.items c.args.index job c.requires.free c.requires.index at;
       hand = ap (λ (j : Job). plain_job j ∷ []) c.run.ensures;
       out =
-          left c.args.self.now.hand c.args.self.now.waiting.items c.remove.new.self.items c.args.place job c.run.result.job c.requires.free others c.run.ensures;
+          left c.args.self.now.hand c.args.self.now.waiting.items c.remove.new.self.items c.args.index job c.run.result.job c.requires.free others c.run.ensures;
     }

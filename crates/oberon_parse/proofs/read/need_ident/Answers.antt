@@ -1,5 +1,0 @@
-use Rattle.oberon_parse.proofs.Descending.{lacks_ident}
-use Rattle.oberon_parse.proofs.read.need_ident.Goals as goal
-
-pub returns-in-None : goal.returns-in-None
-returns-in-None c = lacks_ident c.args.given.now (rw c.in-None.is at c.in_ok-found.ensures)

@@ -1,5 +1,0 @@
-use Rattle.oberon_parse.proofs.Descending.{lacks_word}
-use Rattle.oberon_parse.proofs.read.need_word.Goals as goal
-
-pub returns-in-None : goal.returns-in-None
-returns-in-None c = lacks_word c.args.wanted c.args.given.now c.in-None.ensures.none

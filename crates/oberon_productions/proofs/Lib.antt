@@ -1,0 +1,17 @@
+pub mod Back
+pub mod DeclarationJoins
+pub mod Descending
+pub mod Expand
+pub mod ForthExpressions
+pub mod ForthModules
+pub mod ForthNames
+pub mod ForthStatements
+pub mod ForthTypes
+pub mod Follows
+pub mod Found
+pub mod Joins
+pub mod OpenArrays
+pub mod Operators
+pub mod Parts
+pub mod StatementJoins
+pub mod Steps

@@ -1,0 +1,31 @@
+use Rattle.std.proofs.Common.{refl, arith, ◌∷◌, ◌++◌, ◌∙◌, []}
+use Rattle.oberon_productions.specs.Machine.{qualident_parts}
+use Rattle.oberon_productions.specs.Tests.{is_symbol}
+use Rattle.oberon_productions.proofs.Descending.{via, entered, fewer, exits, onto, behind}
+use Rattle.oberon_productions.proofs.Steps.{skip}
+use Rattle.oberon_productions.specs.Expected as want
+use Rattle.oberon_scan.specs.declared.token.Symbol.TheVariants as symbols
+use Rattle.oberon_productions.proofs.formal.result_type.Goals as goal
+
+pub returns-in_default : goal.returns-in_default
+returns-in_default c =
+    record {
+      spelled = refl;
+      moves = λ s. skip want.some_result (is_symbol symbols.Colon) (qualident_parts ++ []) s c.args.given.now refl (λ k. refl) c.in_default.ensures.none;
+      within = omega arith;
+      shorter = omega arith;
+    }
+
+pub returns-in_err-name : goal.returns-in_err-name
+returns-in_err-name c =
+    exits _ _ c.from_residual.result c.in_err-name.field-0.0 c.from_residual.ensures.1
+    (via (qualident_parts ++ []) (want.some_result ∷ []) _ c.args.given.now _ (λ s. s) (λ s. entered want.some_result (qualident_parts ++ []) s _ _ _ c.in-Some.ensures.some refl) c.in_err-name.ensures)
+
+pub returns : goal.returns
+returns c =
+    record {
+      spelled = onto c.in-Some.ensures.some (behind c.in_ok-name.ensures refl);
+      moves = λ s. entered want.some_result (qualident_parts ++ []) s _ _ _ c.in-Some.ensures.some refl ∙ c.in_ok-name.ensures.moves s;
+      within = omega (arith, c.in_ok-name.ensures.within);
+      shorter = omega (arith, fewer c.in-Some.ensures.some, c.in_ok-name.ensures.shorter);
+    }

@@ -1,0 +1,4 @@
+pub mod Expected
+pub mod Machine
+pub mod Reading
+pub mod Tests

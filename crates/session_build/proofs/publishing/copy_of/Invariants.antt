@@ -1,5 +1,0 @@
-use Rattle.std.proofs.Common.{◌≡◌, take}
-use Rattle.session_build.proofs.publishing.copy_of.Given as goal
-
-abbrev pub invariant-loop-diagnostic : goal.invariant-loop-diagnostic
-invariant-loop-diagnostic l = l.own.items ≡ take l.diagnostic-index l.list

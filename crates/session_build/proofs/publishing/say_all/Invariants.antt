@@ -1,7 +1,0 @@
-use Rattle.std.proofs.Common.{◌≡◌, ◌++◌, map}
-use Rattle.session_law.specs.Builds.{publication_said}
-use Rattle.session_build.specs.Outgoing.{outgoing_said}
-use Rattle.session_build.proofs.publishing.say_all.Given as goal
-
-abbrev pub invariant-loop-piece : goal.invariant-loop-piece
-invariant-loop-piece l = map outgoing_said l.out.items ≡ map outgoing_said l.initial.out.items ++ map publication_said l.yielded
