@@ -10,14 +10,15 @@ use Rattle.session_build.specs.declared.building.Build.{Build}
 use Rattle.session_core.specs.Moving.{HasWaitingTexts}
 use Rattle.session_verdicts.specs.Judging.{IsPlanIn}
 use Rattle.session_verdicts.specs.Plans.{Plan}
-use Rattle.session_core.specs.Standing.{HeadGoesOn, HeadRests, IsUpHead}
-use Rattle.session_core.specs.State.{Rest, handed_of}
+use Rattle.session_core.specs.Standing.{HeadGoesOn, HeadRests, IsQuiet, IsUpHead}
+use Rattle.session_core.specs.State.{Rest, handed_of, rest_of}
 use Rattle.session_core.specs.Taking.{WaitsBehind}
 use Rattle.session_core.specs.declared.head.Head.{Head}
 use Rattle.session_core.specs.declared.head.Phase.{Phase}
 use Rattle.session_core.specs.declared.head.Phase.TheVariants as phases
 use Rattle.session_core.specs.declared.needs.Need.{Need}
 use Rattle.session_core.specs.declared.needs.Need.TheVariants as needs
+use Rattle.session_core.specs.declared.session.Core.{Core}
 use Rattle.session_verdicts.specs.declared.verdicts.Queued.{Queued}
 use Rattle.session_law.specs.Lawful.{AreHeld}
 use Rattle.session_law.specs.Methods.{workspace_path}
@@ -175,6 +176,12 @@ pub record NeedsNothing (rest : Rest) : Type 0 where
   pub tree : rest.tree ≡ None
   pub drains : rest.drains ≡ false
   pub jobs : IfBuilt rest.head (λ b. rest.given ≡ rest.jobs + begun_in b)
+
+-- no request of the queue is open, and nothing is left to write or to need
+pub record IsIdle (core : Core) : Type 0 where
+  pub head : core.head ≡ None
+  pub quiet : IsQuiet core
+  pub needs : NeedsNothing (rest_of core)
 
 -- What was awaited is awaited still, or the jobs of its build are to be drained; and they are only where something was awaited
 -- that isn't any more. So they are as a build that waits for its checks is cancelled, and at no other time.

@@ -73,7 +73,7 @@ impl Core {
     ghost use Rattle.std.specs.Prelude.{◌≡◌, ◌≢◌, ◌≤◌, ◌<◌, ◌∷◌, [], ◌↔◌, ℕ, List, None, IfNone, IfOk, IfSome, IsTrue, OnErr, OnOk};
     ghost use Rattle.std.specs.List.{All};
     ghost use Rattle.build_messages.specs.Outgoing.{outgoing_said};
-    ghost use Rattle.session_core.specs.Settled.{Awaits, DrainsCancelled, IsAsking, IsBack, IsNeeded, IsSettled, NeedsNothing, Suits, left_to_do};
+    ghost use Rattle.session_core.specs.Settled.{Awaits, DrainsCancelled, IsAsking, IsBack, IsIdle, IsNeeded, IsSettled, NeedsNothing, Suits, left_to_do};
     ghost use Rattle.session_core.specs.Standing.{GoesOn, HeadRests, IsAlive, IsQuiet, IsUpHead, StandsFor, left_to_write, status_of};
     ghost use Rattle.session_core.specs.State.{handed_of, rest_of, said_out};
     ghost use Rattle.session_law.specs.IsFramed.{IsFramed};
@@ -269,10 +269,10 @@ impl Core {
         self.status
     }
 
-    /// Whether no request of the queue is open. Then no job is awaited, and the tree is not.
+    /// Whether no request of the queue is open and nothing is left to write or to need. Takes no memory.
     pub fn is_idle(&self) -> bool
-        ensures { IsTrue result ↔ (self.now.head ≡ None) }
+        ensures { IsTrue result ↔ IsIdle self.now }
     {
-        self.head.is_none()
+        self.head.is_none() && self.out.is_empty() && self.tree.is_none() && !self.drains
     }
 }

@@ -20,7 +20,7 @@ pub returns-then-is_idle-clause-finds : goal.returns-then-is_idle-clause-finds
 returns-then-is_idle-clause-finds g c = λ stream from start drained before.
     let so = c.outcomes.invariant in
     read_finds c.outcomes.self.core stream from _ start _ drained so.ready (so.progress stream from start drained before) _ _ c.read.new.into c.read.result
-    (c.is_idle.ensures.0 c.if-is_idle.true) c.read.ensures.left c.read.ensures.course c.read.ensures.stops
+    (c.is_idle.ensures.0 c.if-is_idle.true).head c.read.ensures.left c.read.ensures.course c.read.ensures.stops
 
 pub outcomes-preserved : goal.outcomes-preserved
 outcomes-preserved g c =
