@@ -1,4 +1,4 @@
--- Rows on constants (numbers 19 and 20): their place is the whole expression.
+-- Rows on constants (diagnostics 19 and 20): their place is the whole expression.
 use Rattle.std.specs.Prelude.{◌≡◌, codes, [], ◌∷◌, Some, None, pos, refl}
 use Rattle.oberon_tree.specs.declared.expression.AddOperator.TheVariants as adds
 use Rattle.oberon_tree.specs.declared.expression.MulOperator.TheVariants as muls

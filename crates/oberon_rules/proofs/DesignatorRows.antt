@@ -1,4 +1,4 @@
--- Rows on designators and variables (numbers 26, 27, 28, 30 and 35).
+-- Rows on designators and variables (diagnostics 26, 27, 28, 30 and 35).
 use Rattle.std.specs.Prelude.{◌≡◌, codes, [], ◌∷◌, Some, None, pos, refl}
 use Rattle.oberon_tree.specs.declared.expression.AddOperator.TheVariants as adds
 use Rattle.oberon_tree.specs.Trees.{ModuleTree, expr_of, no_relation, simple_of, no_addends, more_addends, integer_factor, string_factor, true_factor, set_factor, designator_factor, group_factor, set_of, no_elements, designator_of, no_selectors, more_selectors, field_selector, index_selector, call_selector, no_arguments, some_arguments, exprs_of, no_more_exprs, more_exprs, named_type, array_type, record_type, record_of, no_fields, some_fields, no_more_fields, fields_of, statements_of, no_more_statements, more_statements, assign_statement, call_statement}

@@ -1,4 +1,4 @@
--- Rows on the limits of weights (numbers 21 and 22): T10 has the weight 4095, T11 would have 8191, and an interface of 65536 is not too large.
+-- Rows on the limits of weights (diagnostics 21 and 22): T10 has the weight 4095, T11 would have 8191, and an interface of 65536 is not too large.
 use Rattle.std.specs.Prelude.{◌≡◌, codes, [], ◌∷◌, Some, None, refl}
 use Rattle.oberon_tree.specs.Trees.{ModuleTree, named_type, record_type, record_of, some_fields, no_more_fields, fields_of}
 use Rattle.oberon_types.specs.Folding.{folding_function}

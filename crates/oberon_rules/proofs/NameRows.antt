@@ -1,4 +1,4 @@
--- Rows on names, imports and views: a module that breaks a rule, and one that just does not (numbers 10 to 18).
+-- Rows on names, imports and views: a module that breaks a rule, and one that just does not (diagnostics 10 to 18).
 use Rattle.std.specs.Prelude.{◌≡◌, codes, [], ◌∷◌, Some, None, pos, refl}
 use Rattle.oberon_tree.specs.declared.expression.AddOperator.TheVariants as adds
 use Rattle.oberon_tree.specs.declared.statement.LabelValue.TheVariants as labels_of

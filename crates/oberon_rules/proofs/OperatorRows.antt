@@ -1,4 +1,4 @@
--- Rows on operators (numbers 29, 31 and 32).
+-- Rows on operators (diagnostics 29, 31 and 32).
 use Rattle.std.specs.Prelude.{◌≡◌, codes, [], ◌∷◌, Some, None, pos, refl}
 use Rattle.oberon_tree.specs.declared.expression.AddOperator.TheVariants as adds
 use Rattle.oberon_tree.specs.declared.expression.MulOperator.TheVariants as muls

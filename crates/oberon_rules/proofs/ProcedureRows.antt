@@ -1,4 +1,4 @@
--- Rows on procedures and RETURN (numbers 25, 33 and 34).
+-- Rows on procedures and RETURN (diagnostics 25, 33 and 34).
 use Rattle.std.specs.Prelude.{◌≡◌, codes, [], ◌∷◌, Some, None, pos, refl}
 use Rattle.oberon_tree.specs.Trees.{ModuleTree, integer_factor, string_factor, true_factor, designator_factor, designator_of, no_selectors, more_selectors, field_selector, call_selector, no_arguments, some_arguments, exprs_of, no_more_exprs, more_exprs, named_type, statements_of, no_more_statements, more_statements, assign_statement, call_statement}
 use Rattle.oberon_types.specs.Folding.{folding_function}

@@ -1,4 +1,4 @@
--- Rows on FOR and CASE (numbers 36, 37 and 38, with 19, 20, 29 and 32).
+-- Rows on FOR and CASE (diagnostics 36, 37 and 38, with 19, 20, 29 and 32).
 use Rattle.std.specs.Prelude.{◌≡◌, codes, [], ◌∷◌, Some, None, pos, refl}
 use Rattle.oberon_tree.specs.declared.expression.AddOperator.TheVariants as adds
 use Rattle.oberon_tree.specs.declared.expression.MulOperator.TheVariants as muls

@@ -1,4 +1,4 @@
--- Rows on types (numbers 21, 23 and 24).
+-- Rows on types (diagnostics 21, 23 and 24).
 use Rattle.std.specs.Prelude.{◌≡◌, codes, [], ◌∷◌, Some, None, pos, refl}
 use Rattle.oberon_tree.specs.Trees.{ModuleTree, integer_factor, designator_of, no_selectors, exprs_of, no_more_exprs, more_exprs, named_type, array_type, record_type, record_of, no_fields, some_fields, no_more_fields, more_fields, fields_of, statements_of, no_more_statements, assign_statement}
 use Rattle.oberon_types.specs.Folding.{folding_function}

@@ -9,10 +9,10 @@ pub type List<'a> = (&'a str, &'a str, &'a [&'a str]);
 
 /// What stands before the first such byte, and what stands behind it.
 fn cut(text: &[u8], mark: u8) -> Result<(&[u8], &[u8]), Fail> {
-    let Some(place) = text.iter().position(|byte| *byte == mark) else {
+    let Some(offset) = text.iter().position(|byte| *byte == mark) else {
         return Err(Fail::from("a part of a row is missing"));
     };
-    let Some((front, back)) = text.split_at_checked(place) else {
+    let Some((front, back)) = text.split_at_checked(offset) else {
         return Err(Fail::from("a part of a row is missing"));
     };
     match back.split_first() {

@@ -1,15 +1,16 @@
 -- When two ids are the same, and lists of ids of which no two are.
 use Rattle.std.proofs.Common.{◌≡◌, ◌||◌, Bool, true, false, List, [], ◌∷◌, ◌++◌, refl, ap, sym, ◌∙◌, true≢false}
+use Rattle.std.specs.Prelude.{if◌then◌else◌}
 use Rattle.std.proofs.lemmas.Bool.Decides.{Decides-int_eq}
 use Rattle.std.proofs.lemmas.List.{append-nil}
 use Rattle.std.proofs.lemmas.Slice.Eq.{bytes_eq-Decides}
 use Rattle.rpc_peer.specs.declared.message.Id.{Id}
 use Rattle.rpc_peer.specs.declared.message.Id.TheVariants.{Number, Text}
 use Rattle.rpc_peer.specs.OpenIds.{has_id, same_id}
-use Rattle.session_queue.specs.Marks.{equal}
+use Rattle.session_queue.specs.IdSet.{equal}
 use Rattle.session_queue.specs.Waiting.{AreApart}
 
--- a map compares ids as texts and numbers
+-- a set compares ids as texts and numbers
 pub equal_is_same : (a b : Id) → equal a b ≡ same_id a b
 equal_is_same (Number m) (Number n) = refl
 equal_is_same (Number m) (Text t) = refl
@@ -42,6 +43,10 @@ or_false false b none = (refl, none)
 pub both_false : (a b : Bool) → a ≡ false → b ≡ false → (a || b) ≡ false
 both_false a b left right = ap (λ (c : Bool). c || b) left ∙ right
 
+pub found_behind : (a b : Bool) → b ≡ true → (a || b) ≡ true
+found_behind true b found = refl
+found_behind false b found = found
+
 -- ---- one id in the middle of others
 
 -- another id is found as it is without it
@@ -71,3 +76,15 @@ AreApart-push [] id apart none = (refl, tt)
 AreApart-push (first ∷ ids) id apart none =
     let parts = or_false (same_id id first) (has_id id ids) none in
     (has_id_around first ids id [] (apart_back id first parts.0) ∙ (ap (has_id first) (append-nil ids) ∙ apart.0), AreApart-push ids id apart.1 parts.1)
+
+-- what is found behind one more
+pub has_id_push : (ids : List Id) (more id : Id) → has_id id (ids ++ more ∷ []) ≡ (if same_id more id then true else has_id id ids)
+has_id_push ids more id = by (same_id more id) refl
+  where
+    found : (ids : List Id) → has_id more (ids ++ more ∷ []) ≡ true
+    found [] = ap (λ (b : Bool). b || false) (same_id_refl more)
+    found (first ∷ ids) = found_behind (same_id more first) (has_id more (ids ++ more ∷ [])) (found ids)
+
+    by : (same : Bool) → same_id more id ≡ same → has_id id (ids ++ more ∷ []) ≡ (if same_id more id then true else has_id id ids)
+    by true here = rw here (ap (λ (q : Id). has_id q (ids ++ more ∷ [])) (sym (same_is more id here)) ∙ found ids)
+    by false away = rw away (has_id_around id ids more [] (apart_back more id away) ∙ ap (has_id id) (append-nil ids))

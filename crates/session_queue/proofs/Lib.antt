@@ -1,3 +1,3 @@
 pub mod CallerLaws
 pub mod IdLaws
-pub mod MarkLaws
+pub mod QueueLaws

@@ -2,11 +2,10 @@
 //! and whether it is to be cancelled.
 //!
 //! It stands on `rpc_peer` for ids. What a request asks for is a parameter: nothing of methods, builds and answers is known
-//! here. Begin with `specs/Waiting.antt`, which says it of plain lists, then `queue.rt`. `specs/Marks.antt` is about how a
-//! queue keeps them, and `proofs/CallerLaws.antt` has lemmas for callers.
+//! here. Begin with `specs/Waiting.antt`, which says it of plain lists, then `queue.rt`. `proofs/CallerLaws.antt` has lemmas
+//! for callers.
 #![tactic(auto)]
 
-mod marks;
 mod queue;
 mod waiting;
 

@@ -1,12 +1,10 @@
-ghost use Rattle.std.specs.Prelude.{◌≡◌, ◌↔◌, ◌++◌, ◌∷◌, [], None, false, if◌then◌else◌, length, position, OnOk, OnErr, IfSome, IfNone, IsTrue};
+ghost use Rattle.std.specs.Prelude.{◌≡◌, ◌↔◌, ◌++◌, ◌∷◌, [], false, length, position, OnOk, OnErr, IfSome, IfNone, IsTrue};
 ghost use Rattle.std.specs.Option.{option_to_list};
-ghost use Rattle.rpc_peer.specs.declared.message.Id.{Id};
-ghost use Rattle.session_queue.specs.Marks.{equal, is_marked, mark_at, waiting_at};
+ghost use Rattle.session_queue.specs.IdSet.{equal};
 ghost use Rattle.session_queue.specs.Waiting.{AreApart, all_marked, first_marked, has_this_id, ids, is_open, kept_of, marked_of, marked_where, without};
 
-use crate::marks::{is_marked, set_all, set_mark, take_mark};
-use crate::waiting::{Request, Waiting};
-use indexmap::IndexMap;
+use crate::waiting::Waiting;
+use indexmap::IndexSet;
 use ob_text::NoMemory;
 use rpc_peer::Id;
 use std::alloc::Global;
@@ -15,13 +13,13 @@ use std::marker::Model;
 
 /// The requests that wait, in order of arrival. No two have one id.
 ///
-/// A request is marked and found by one hash of its id. The oldest one is taken in constant time, and one behind it in a
-/// time that grows by those before it.
+/// Whether an id waits is told by one hash, and the oldest request is taken in constant time. One that is marked is looked
+/// for from the front, by its id to mark it, and by its mark to take it.
 pub struct Queue<T> {
     alloc: Global,
-    requests: VecDeque<Request<T>>,
-    // of each id that waits, whether its request is to be cancelled
-    marks: IndexMap<Id, bool>,
+    requests: VecDeque<Waiting<T>>,
+    // the ids of those that wait
+    ids: IndexSet<Id>,
 }
 
 impl<T: Drop> Drop for Queue<T> {
@@ -29,21 +27,21 @@ impl<T: Drop> Drop for Queue<T> {
         let Self {
             alloc: _,
             requests: _,
-            marks: _,
+            ids: _,
         } = self;
     }
 }
 
 impl<T> Model for Queue<T> {
     ghost use Rattle.std.specs.Prelude.{List};
-    ghost use Rattle.session_queue.specs.Marks.{AreMarksOf, ids_of, waiting_of};
+    ghost use Rattle.session_queue.specs.IdSet.{HasIdsOf};
     ghost use Rattle.session_queue.specs.declared.waiting.Waiting.{Waiting};
 
     ghost Value = { List (Waiting T) };
 
-    ghost view = { λ queue. waiting_of queue.marks.entries queue.requests.items };
+    ghost view = { λ queue. queue.requests.items };
 
-    ghost invariant = { λ queue. AreMarksOf queue.marks.entries (ids_of queue.requests.items) };
+    ghost invariant = { λ queue. HasIdsOf queue.requests.items queue.ids };
 }
 
 impl<T> Queue<T> {
@@ -54,7 +52,7 @@ impl<T> Queue<T> {
         Queue {
             alloc,
             requests: VecDeque::new(alloc),
-            marks: IndexMap::new(alloc),
+            ids: IndexSet::new(alloc),
         }
     }
 
@@ -66,17 +64,10 @@ impl<T> Queue<T> {
         ensures pushed { OnOk result (self.new ≡ self.old ++ waiting ∷ []) }
         ensures unchanged { OnErr result (self.new ≡ self.old) }
     {
-        let Waiting {
-            id,
-            number,
-            call,
-            cancelled,
-        } = waiting;
-        let key = id.copy(self.alloc)?;
+        let id = waiting.id.copy(self.alloc)?;
         self.requests.reserve(1)?;
-        self.marks.insert(key, cancelled)?;
-        self.requests
-            .push_back_reserved(Request { id, number, call });
+        self.ids.insert(id)?;
+        self.requests.push_back_reserved(waiting);
         Ok(())
     }
 
@@ -85,7 +76,7 @@ impl<T> Queue<T> {
         ensures open { result ≡ is_open id.now self.now }
         ensures apart { AreApart (ids self.now) }
     {
-        self.marks.contains_key(id)
+        self.ids.contains(id)
     }
 
     /// The request with this id is to be cancelled. Tells whether there is one. Takes no memory.
@@ -93,14 +84,22 @@ impl<T> Queue<T> {
         ensures open { result ≡ is_open id.now self.old }
         ensures marked { self.new ≡ marked_where (has_this_id id.now) self.old }
     {
-        set_mark(&mut self.marks, id)
+        match index_of(&self.requests, id) {
+            Some(index) => {
+                self.requests[index].cancelled = true;
+                true
+            }
+            None => false,
+        }
     }
 
     /// All requests are to be cancelled. Takes no memory.
     pub fn mark_all(&mut self)
         ensures { self.new ≡ all_marked self.old }
     {
-        set_all(&mut self.marks);
+        for index in 0..self.requests.len() {
+            self.requests[index].cancelled = true;
+        }
     }
 
     /// Takes the oldest request. Takes no memory.
@@ -108,10 +107,9 @@ impl<T> Queue<T> {
         ensures first { self.old ≡ option_to_list result ++ self.new }
         ensures none { IfNone result (self.old ≡ []) }
     {
-        match self.requests.pop_front() {
-            Some(request) => Some(marked(&mut self.marks, request)),
-            None => None,
-        }
+        let waiting = self.requests.pop_front()?;
+        self.ids.swap_remove(&waiting.id);
+        Some(waiting)
     }
 
     /// Takes the oldest request that is to be cancelled. Takes no memory.
@@ -124,9 +122,10 @@ impl<T> Queue<T> {
         ensures kept { kept_of self.new ≡ kept_of self.old }
         ensures apart { AreApart (ids self.old) }
     {
-        let index = first_marked(&self.requests, &self.marks)?;
-        let request = self.requests.remove(index)?;
-        Some(marked(&mut self.marks, request))
+        let index = first_marked(&self.requests)?;
+        let waiting = self.requests.remove(index)?;
+        self.ids.swap_remove(&waiting.id);
+        Some(waiting)
     }
 
     pub fn len(&self) -> usize
@@ -143,27 +142,16 @@ impl<T> Queue<T> {
     }
 }
 
-/// The request, with its mark, which is taken out.
-fn marked<T>(marks: &mut IndexMap<Id, bool>, request: Request<T>) -> Waiting<T>
-    ensures marked { result ≡ waiting_at marks.old.entries request }
-    ensures others { (other : Id) → mark_at marks.new.entries other
-        ≡ (if equal request.id other then None else mark_at marks.old.entries other) }
+/// The index of the request with this id.
+fn index_of<T>(requests: &VecDeque<Waiting<T>>, id: &Id) -> Option<usize>
+    ensures { result ≡ position (λ waiting. equal id.now waiting.id) requests.now.items }
 {
-    let cancelled = take_mark(marks, &request.id);
-    let Request { id, number, call } = request;
-    Waiting {
-        id,
-        number,
-        call,
-        cancelled,
-    }
+    requests.iter().position(|waiting| *id == waiting.id)
 }
 
-/// The index of the first request that is marked.
-fn first_marked<T>(requests: &VecDeque<Request<T>>, marks: &IndexMap<Id, bool>) -> Option<usize>
-    ensures { result ≡ position (λ request. is_marked marks.now.entries request.id) requests.now.items }
+/// The index of the oldest request that is marked.
+fn first_marked<T>(requests: &VecDeque<Waiting<T>>) -> Option<usize>
+    ensures { result ≡ position (λ waiting. waiting.cancelled) requests.now.items }
 {
-    requests
-        .iter()
-        .position(|request| is_marked(marks, &request.id))
+    requests.iter().position(|waiting| waiting.cancelled)
 }

@@ -11,11 +11,3 @@ pub struct Waiting<T> {
     /// It is to be cancelled.
     pub cancelled: bool,
 }
-
-/// A request that waits, apart from its mark.
-#[derive(Drop)]
-pub struct Request<T> {
-    pub id: Id,
-    pub number: u64,
-    pub call: T,
-}
