@@ -5,7 +5,7 @@ use std::alloc::{AllocError, Global};
 use std::test::Fail;
 
 /// In each line, parted by `_`: what stands before a smallest sentence of a construct, the sentence, what stands
-/// behind it, and the places of the first bad token when each token of the sentence in turn is missing, stands
+/// behind it, and the indices of the first bad token when each token of the sentence in turn is missing, stands
 /// twice, and is replaced (`-`: a module all the same). `bench/parse_cases` prints this table from the grammar of
 /// `docs/LANGUAGE.md` alone.
 const CASES: &str = "
@@ -94,8 +94,8 @@ fn replacement(token: &str) -> &'static str {
 /// The sentence with one token changed.
 fn changed(alloc: Global, sentence: &str, at: usize, change: Change) -> Result<String, AllocError> {
     let mut out = String::new(alloc);
-    for (place, token) in sentence.split_whitespace().enumerate() {
-        let shown = if place == at {
+    for (index, token) in sentence.split_whitespace().enumerate() {
+        let shown = if index == at {
             match change {
                 Change::Missing => "",
                 Change::Doubled => token,
@@ -105,15 +105,15 @@ fn changed(alloc: Global, sentence: &str, at: usize, change: Change) -> Result<S
             token
         };
         write!(out, " {shown}")?;
-        if place == at && matches!(change, Change::Doubled) {
+        if index == at && matches!(change, Change::Doubled) {
             write!(out, " {token}")?;
         }
     }
     Ok(out)
 }
 
-/// The places of the first bad token when each token of a sentence in turn is changed.
-fn places(
+/// The indices of the first bad token when each token of a sentence in turn is changed.
+fn indices(
     alloc: Global,
     around: (&str, &str),
     sentence: &str,
@@ -126,22 +126,22 @@ fn places(
             out.push_str(" ")?;
         }
         let middle = changed(alloc, sentence, at, change)?;
-        let place = place_in(alloc, front, middle.as_str(), back)?;
-        out.push_str(place.as_str())?;
+        let index = index_in(alloc, front, middle.as_str(), back)?;
+        out.push_str(index.as_str())?;
     }
     Ok(out)
 }
 
-/// The place of the first bad token, or `-` for a module.
-fn place_in(alloc: Global, front: &str, middle: &str, back: &str) -> Result<String, Fail> {
+/// The index of the first bad token, or `-` for a module.
+fn index_in(alloc: Global, front: &str, middle: &str, back: &str) -> Result<String, Fail> {
     let text = format!(in alloc; "{front} {middle} {back}")?;
     Ok(match first_bad(alloc, text.as_str())? {
-        Some(place) => format!(in alloc; "{place}")?,
+        Some(index) => format!(in alloc; "{index}")?,
         None => String::from_str(alloc, "-")?,
     })
 }
 
-/// Whether the places are these.
+/// Whether the indices are these.
 fn gives(
     alloc: Global,
     around: (&str, &str),
@@ -149,7 +149,7 @@ fn gives(
     change: Change,
     want: &str,
 ) -> Result<bool, Fail> {
-    let found = places(alloc, around, sentence, change)?;
+    let found = indices(alloc, around, sentence, change)?;
     Ok(found.as_str() == want)
 }
 
@@ -161,9 +161,9 @@ fn holds(alloc: Global, line: &str) -> Result<bool, Fail> {
     }
     let around = (cells[0], cells[2]);
     let sentence = cells[1];
-    let place = place_in(alloc, cells[0], sentence, cells[2])?;
+    let index = index_in(alloc, cells[0], sentence, cells[2])?;
     Ok(
-        place.as_str() == "-"
+        index.as_str() == "-"
             && gives(alloc, around, sentence, Change::Missing, cells[3].trim())?
             && gives(alloc, around, sentence, Change::Doubled, cells[4].trim())?
             && gives(alloc, around, sentence, Change::Replaced, cells[5].trim())?,
@@ -179,7 +179,7 @@ fn finds_the_first_bad_token(rt: HostRuntime) -> Result<(), Fail> {
     Ok(())
 }
 
-/// Texts whose first bad token is told by the grammar, and its place.
+/// Texts whose first bad token is told by the grammar, and its index.
 const TEXTS: [(&str, Option<usize>); 12] = [
     ("", Some(0)),
     ("(* no token *)", Some(0)),
@@ -221,7 +221,7 @@ struct Nest {
     back: &'static str,
     /// How many of them may stand in one another, and how many tokens stand before one more.
     most: usize,
-    place: usize,
+    index: usize,
 }
 
 const VALUE: Nest = Nest {
@@ -231,7 +231,7 @@ const VALUE: Nest = Nest {
     closing: ")",
     back: " END A.",
     most: 64,
-    place: 70,
+    index: 70,
 };
 
 const STATEMENT: Nest = Nest {
@@ -241,7 +241,7 @@ const STATEMENT: Nest = Nest {
     closing: " UNTIL a",
     back: " END A.",
     most: 64,
-    place: 68,
+    index: 68,
 };
 
 const TYPE: Nest = Nest {
@@ -251,7 +251,7 @@ const TYPE: Nest = Nest {
     closing: "",
     back: "; END A.",
     most: 64,
-    place: 198,
+    index: 198,
 };
 
 const NESTS: [Nest; 13] = [
@@ -271,7 +271,7 @@ const NESTS: [Nest; 13] = [
         opening: "[a",
         inner: "",
         closing: "]",
-        place: 135,
+        index: 135,
         ..VALUE
     },
     Nest {
@@ -279,32 +279,32 @@ const NESTS: [Nest; 13] = [
         opening: "(a",
         inner: "",
         closing: ")",
-        place: 135,
+        index: 135,
         ..VALUE
     },
     STATEMENT,
     Nest {
         opening: "IF a THEN ",
         closing: " END",
-        place: 196,
+        index: 196,
         ..STATEMENT
     },
     Nest {
         opening: "CASE a OF 1: ",
         closing: " END",
-        place: 324,
+        index: 324,
         ..STATEMENT
     },
     Nest {
         opening: "WHILE a DO ",
         closing: " END",
-        place: 196,
+        index: 196,
         ..STATEMENT
     },
     Nest {
         opening: "FOR i := 1 TO 2 DO ",
         closing: " END",
-        place: 452,
+        index: 452,
         ..STATEMENT
     },
     TYPE,
@@ -319,7 +319,7 @@ const NESTS: [Nest; 13] = [
         opening: "ARRAY OF ",
         back: "); END P; END A.",
         most: 63,
-        place: 134,
+        index: 134,
         ..TYPE
     },
 ];
@@ -353,7 +353,7 @@ fn opens_sixty_four_levels(rt: HostRuntime) -> Result<(), Fail> {
         );
         for count in [nest.most.saturating_add(1), 10_000] {
             let found = bad_in_nest(alloc, &nest, count)?;
-            assert_eq!(rt; found, Some(nest.place), "{}", nest.opening);
+            assert_eq!(rt; found, Some(nest.index), "{}", nest.opening);
         }
     }
     Ok(())

@@ -7,7 +7,7 @@ use std::alloc::Global;
 use std::test::Fail;
 use worker_pool::Crew;
 
-/// What a crew without jobs answers to some calls. A `g` gives it a job, whose number is the place of the letter; a `w`
+/// What a crew without jobs answers to some calls. A `g` gives it a job, whose number is the index of the letter; a `w`
 /// waits, and is answered by `+` or `-`; a `c` collects, and is answered by the job's number or a `.`; a `d` drains, and is
 /// answered by the number of jobs that were dropped.
 pub fn told<C: Crew>(alloc: Global, crew: &mut C, acts: &str) -> Result<String, Fail>

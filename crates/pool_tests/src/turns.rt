@@ -42,7 +42,7 @@ const ORDERED: [(&[u32], &str, &str); 8] = [
 ];
 
 #[test]
-fn does_the_one_at_the_next_place(rt: HostRuntime) -> Result<(), Fail> {
+fn does_the_one_at_the_next_index(rt: HostRuntime) -> Result<(), Fail> {
     let alloc = rt.alloc();
     for &(order, acts, want) in &ORDERED {
         let mut crew = ScriptCrew::new(alloc, Vec::from_slice(alloc, order)?);

@@ -7,20 +7,20 @@ use std::sync::Arc;
 use std::test::Fail;
 use task_stream::{Piece, Shown, TableKey};
 
-fn bad_character(place: u32) -> Diagnostic {
+fn bad_character(offset: u32) -> Diagnostic {
     Diagnostic {
         span: Span {
-            start: place,
-            end: place,
+            start: offset,
+            end: offset,
         },
         range: Range {
             start: Position {
                 line: 0,
-                character: place,
+                character: offset,
             },
             end: Position {
                 line: 0,
-                character: place,
+                character: offset,
             },
         },
         code: Code::BadCharacter,
@@ -30,8 +30,8 @@ fn bad_character(place: u32) -> Diagnostic {
 
 fn many(alloc: Global, count: u32) -> Result<Vec<Diagnostic>, NoMemory> {
     let mut list = Vec::new(alloc);
-    for place in 0..count {
-        list.push(bad_character(place))?;
+    for offset in 0..count {
+        list.push(bad_character(offset))?;
     }
     Ok(list)
 }

@@ -122,14 +122,14 @@ fn each_second_is_cancelled(rt: HostRuntime) -> Result<(), Fail> {
             assert!(rt; queue.mark(&rpc_peer::Id::Number(number as i64)));
         }
     }
-    for place in 0..50u64 {
-        let number = 2 * place + 1;
+    for index in 0..50u64 {
+        let number = 2 * index + 1;
         let wanted = Some(Taken(Number(number as i64), number, true));
         assert!(rt; is_taken(alloc, queue.take_marked(), wanted)?, "{number}");
     }
     assert!(rt; is_taken(alloc, queue.take_marked(), None)?);
-    for place in 0..50u64 {
-        let number = 2 * place;
+    for index in 0..50u64 {
+        let number = 2 * index;
         let wanted = Some(Taken(Number(number as i64), number, false));
         assert!(rt; is_taken(alloc, queue.take_first(), wanted)?, "{number}");
     }

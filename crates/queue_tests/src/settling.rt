@@ -35,8 +35,8 @@ fn settles_what_is_marked(rt: HostRuntime) -> Result<(), Fail> {
     }
     let taken = settled(alloc, &mut queue)?;
     assert_eq!(rt; taken.len(), 3);
-    for (place, waiting) in taken.iter().enumerate() {
-        assert_eq!(rt; waiting.number, 3 * place as u64);
+    for (index, waiting) in taken.iter().enumerate() {
+        assert_eq!(rt; waiting.number, 3 * index as u64);
     }
     assert_eq!(rt; queue.len(), 6);
     Ok(())

@@ -41,8 +41,8 @@ fn two_frames(rt: HostRuntime) -> Result<(), Fail> {
 #[test]
 fn cut_after_each_byte(rt: HostRuntime) -> Result<(), Fail> {
     let mut cuts = Vec::new(rt.alloc());
-    for place in 0..336 {
-        cuts.push(place)?;
+    for offset in 0..336 {
+        cuts.push(offset)?;
     }
     expect(
         rt.alloc(),
