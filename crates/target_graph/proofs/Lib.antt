@@ -24,4 +24,5 @@ pub mod PairLaws
 pub mod Distinct
 pub mod PlainFaults
 pub mod PlainLaws
+pub mod Segments
 mod NamedLaws

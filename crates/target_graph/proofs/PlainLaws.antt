@@ -1,9 +1,8 @@
 -- Names, stems, paths of fields and addresses are printing ASCII characters without blanks, and short.
-use Rattle.std.proofs.Common.{◌≡◌, ℕ, ◌+◌, ◌-◌, ◌≤◌, ◌&&◌, Bool, true, false, not, cond, List, [], ◌∷◌, ◌++◌, length, max, take, drop, codes, eqb, leb, refl, ap, ◌∙◌, arith}
+use Rattle.std.proofs.Common.{◌≡◌, ℕ, ◌+◌, ◌-◌, ◌≤◌, ◌&&◌, Bool, true, not, List, ◌++◌, length, max, take, drop, codes, eqb, leb, refl, ◌∙◌, arith}
 use Rattle.std.specs.Char.{is_ascii_graphic}
-use Rattle.std.specs.List.{AllPass, list_all, slice_split, onto_first, position_or_len, suffix_len}
-use Rattle.std.specs.Str.{bytes_eq}
-use Rattle.std.proofs.lemmas.Bool.{and_from, and_parts, leb-true, eqb-true}
+use Rattle.std.specs.List.{AllPass, list_all, position_or_len, suffix_len}
+use Rattle.std.proofs.lemmas.Bool.{and_from, and_parts, leb-true}
 use Rattle.std.proofs.lemmas.Bool.Decides.{nat_tests}
 use Rattle.std.proofs.lemmas.List.{length-append, length-take, length-drop}
 use Rattle.std.proofs.lemmas.List.Elements.{All-take, All-drop, All-weaker}
@@ -17,6 +16,7 @@ use Rattle.target_graph.specs.Limits.{name_limit}
 use Rattle.target_graph.specs.Address.{target_address, document_address}
 use Rattle.target_graph.specs.Names.{is_name_byte, are_name_bytes, is_name, is_segment, segments, stem, is_module_name, is_path, IsPlainName}
 use Rattle.target_graph.specs.Root.{IsRoot}
+use Rattle.target_graph.proofs.Segments.{is_path_byte, path_bytes, words_of}
 
 -- ---- plain texts, one behind another
 
@@ -55,44 +55,15 @@ plain_name text e =
 
 -- ---- paths and stems
 
-abbrev are_words : List (List ℕ) → Bool
-are_words parts = list_all (λ part. list_all is_name_byte part) parts
-
-words_of : (parts : List (List ℕ)) → list_all is_segment parts ≡ true → are_words parts ≡ true
-words_of [] e = refl
-words_of (part ∷ parts) e =
-    let h = and_parts (is_segment part) (list_all is_segment parts) e in
-    let one = and_parts (are_name_bytes part && not (bytes_eq part (codes "."))) (not (bytes_eq part (codes ".."))) h.0 in
-    let two = and_parts (are_name_bytes part) (not (bytes_eq part (codes "."))) one.0 in
-    ap (λ b. b && are_words parts) (word_bytes part two.0) ∙ words_of parts h.1
-
--- one byte before the first part
-onto_words : (b : ℕ) (parts : List (List ℕ)) → are_words (onto_first b parts) ≡ true → (is_ascii_graphic b ≡ true) × (are_words parts ≡ true)
-onto_words b [] e =
-    let h = and_parts (list_all is_name_byte (b ∷ [])) true e in
-    (name_byte b (and_parts (is_name_byte b) true h.0).0, refl)
-onto_words b (part ∷ parts) e =
-    let h = and_parts (list_all is_name_byte (b ∷ part)) (are_words parts) e in
-    let one = and_parts (is_name_byte b) (list_all is_name_byte part) h.0 in
-    (name_byte b one.0, ap (λ x. x && are_words parts) one.1 ∙ h.1)
-
-split_graphic : (path : List ℕ) → are_words (slice_split (λ byte. eqb byte 47) path) ≡ true → list_all is_ascii_graphic path ≡ true
-split_graphic [] e = refl
-split_graphic (b ∷ bs) e = go (eqb b 47) refl e (split_graphic bs)
-  where
-    rest : List (List ℕ)
-    rest = slice_split (λ byte. eqb byte 47) bs
-
-    go : (slash : Bool) → eqb b 47 ≡ slash → are_words (cond slash ([] ∷ rest) (onto_first b rest)) ≡ true → (are_words rest ≡ true → list_all is_ascii_graphic bs ≡ true) → list_all is_ascii_graphic (b ∷ bs) ≡ true
-    go true is h more = and_from _ _ (ap is_ascii_graphic (eqb-true b 47 is)) (more h)
-    go false is h more = let w = onto_words b rest h in and_from _ _ w.0 (more w.1)
+path_byte : (b : ℕ) → is_path_byte b ≡ true → is_ascii_graphic b ≡ true
+path_byte b e = grind (arith, nat_tests)
 
 pub plain_path : (path : List ℕ) → is_path path ≡ true → IsPlainName path
 unfolding is_path
 plain_path path e =
     let h = and_parts (leb (length path) name_limit && list_all is_segment (segments path)) (is_module_name (stem path)) e in
     let k = and_parts (leb (length path) name_limit) (list_all is_segment (segments path)) h.0 in
-    plain_bytes name_limit path (split_graphic path (words_of (segments path) k.1)) (leb-true (length path) name_limit k.0)
+    plain_bytes name_limit path (all_weaker is_path_byte is_ascii_graphic path_byte path (path_bytes path (words_of (segments path) k.1))) (leb-true (length path) name_limit k.0)
 
 pub plain_stem : (path : List ℕ) → is_path path ≡ true → IsPlainName (stem path)
 unfolding stem

@@ -1,4 +1,4 @@
-ghost use Rattle.std.specs.Prelude.{◌≡◌, ◌==◌, List, ℕ, true, IfOk, slice_index};
+ghost use Rattle.std.specs.Prelude.{◌≡◌, ◌==◌, ◌&&◌, List, ℕ, true, IfOk, slice_index};
 ghost use Rattle.std.specs.Char.{is_ascii_alphabetic, is_ascii_alphanumeric};
 ghost use Rattle.std.specs.List.{list_all, before_first};
 ghost use Rattle.target_graph.specs.Names as spec;
@@ -66,16 +66,28 @@ fn last_segment(path: &[u8]) -> &[u8]
 fn has_segments(path: &[u8]) -> bool
     ensures { result ≡ list_all spec.is_segment (spec.segments path.now) }
 {
-    path.split(|byte| *byte == b'/')
-        .all(|segment| is_segment(segment))
+    let mut start = 0;
+    let mut at = 0;
+    'sweep: while at < path.len() {
+        let byte = path[at];
+        if !is_name_byte(byte) {
+            if byte != b'/' || !leads_on(&path[start..at]) {
+                return false;
+            }
+            start = at + 1;
+        }
+        at += 1;
+    }
+    leads_on(&path[start..])
 }
 
-fn is_segment(text: &[u8]) -> bool
-    ensures { result ≡ spec.is_segment text.now }
+/// Whether a text leads on from its folder: it isn't empty, and names neither that folder nor the one above.
+fn leads_on(text: &[u8]) -> bool
+    ensures { spec.is_segment text.now ≡ list_all spec.is_name_byte text.now && result }
 {
     const HERE: &[u8] = b".";
     const ABOVE: &[u8] = b"..";
-    are_name_bytes(text) && text != HERE && text != ABOVE
+    !text.is_empty() && text != HERE && text != ABOVE
 }
 
 fn are_name_bytes(text: &[u8]) -> bool
@@ -93,7 +105,7 @@ fn has_name_bytes(text: &[u8]) -> bool
 fn is_name_byte(byte: u8) -> bool
     ensures { result ≡ spec.is_name_byte byte }
 {
-    byte.is_ascii_alphanumeric() || matches!(byte, b'_' | b'.' | b'-')
+    byte.is_ascii_alphabetic() || byte.is_ascii_digit() || matches!(byte, b'_' | b'.' | b'-')
 }
 
 #[tactic(auto, unfolding(crate::specs::Names::is_module_name))]
