@@ -2,11 +2,12 @@
 use Rattle.std.specs.Prelude.{ℕ, zero, suc, ◌+◌, ◌<◌, ◌≤◌, ◌≡◌, ◌++◌, List, [], ◌∷◌, Result, Ok, Err, OnOk, map, length, drop, slice_get, refl}
 use Rattle.std.proofs.Common.{ap, sym, ◌∙◌, arith, add-one}
 use Rattle.std.proofs.lemmas.List.{drop_all}
-use Rattle.oberon_types.specs.declared.ty.Field.{Field}
+use Rattle.oberon_types.specs.declared.names.FieldName.{FieldName}
 use Rattle.oberon_types.specs.declared.ty.RecordTy.{RecordTy, out-RecordTy}
 use Rattle.oberon_types.specs.declared.entity.Entity.{Entity}
-use Rattle.oberon_types.specs.Memory.{plain_record, base_option, fields_list, plain_export}
-use Rattle.oberon_types.proofs.TypeMemory.{record_out}
+use Rattle.oberon_types.specs.Memory.{plain_record, base_option, fields_in, types_in, named_fields, plain_export}
+use Rattle.oberon_types.specs.Types.{FieldsTree}
+use Rattle.oberon_types.proofs.TypeMemory.{record_types, fields_out}
 use Rattle.iface_key.specs.Keys.{number_then, origin_then, base_then, fields_then, record_then, list_then, export_then}
 use Rattle.iface_key.specs.Printed.{Prints, found_then}
 
@@ -19,15 +20,20 @@ pub printed_all : {X : Type 0} (all_then : List X → List ℕ → List ℕ) (xs
 printed_all all_then xs i start now after past printed ended rest =
     ended rest ∙ ap (λ ys. now ++ all_then ys rest) (sym (drop_all i xs past)) ∙ printed rest
 
-pub printed_record : (x : RecordTy) (fs : List Field) (a b c d e : List ℕ) → fs ≡ (out-RecordTy x).fields.items → Prints (origin_then (out-RecordTy x).origin) a b → Prints (base_then (base_option (out-RecordTy x).base)) b c → Prints (fields_then (fields_list fs)) c d → Prints (number_then (out-RecordTy x).size) d e → Prints (record_then (plain_record x)) a e
-printed_record x fs a b c d e items origin base fields size rest =
+-- ---- records
+
+pub fields_named : (x : RecordTy) (fs : List FieldName) → fs ≡ (out-RecordTy x).names.value → named_fields fs (types_in x) ≡ fields_in x
+fields_named x fs e = ap (λ (gs : List FieldName). named_fields gs (types_in x)) e ∙ sym (fields_out x)
+
+pub printed_record : (x : RecordTy) (a b c d e : List ℕ) → Prints (origin_then (out-RecordTy x).origin) a b → Prints (base_then (base_option (out-RecordTy x).base)) b c → Prints (fields_then (fields_in x)) c d → Prints (number_then (out-RecordTy x).size) d e → Prints (record_then (plain_record x)) a e
+printed_record x a b c d e origin base fields size rest =
     let behind = number_then (out-RecordTy x).size rest in
     size rest
     ∙ fields behind
-    ∙ ap (λ gs. c ++ fields_then (fields_list gs) behind) items
+    ∙ ap (λ (gs : FieldsTree). c ++ fields_then gs behind) (fields_out x)
     ∙ base _
     ∙ origin _
-    ∙ ap (λ r. a ++ record_then r rest) (sym (record_out x))
+    ∙ ap (λ r. a ++ record_then r rest) (sym (record_types x))
 
 -- ---- exports, by index
 

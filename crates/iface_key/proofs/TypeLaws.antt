@@ -6,10 +6,9 @@ use Rattle.std.specs.declared.sync.Arc.{Arc}
 use Rattle.std.specs.declared.vec.Vec.{Vec}
 use Rattle.oberon_types.specs.declared.origin.Origin.{Origin}
 use Rattle.oberon_types.specs.declared.ty.Field.{Field}
-use Rattle.oberon_types.specs.declared.ty.RecordTy.{RecordTy, roll-RecordTy}
+use Rattle.oberon_types.specs.declared.ty.RecordTy.{RecordTy}
 use Rattle.oberon_types.specs.Types.{TyTree, unknown_ty, integer_ty, byte_ty, char_ty, boolean_ty, set_ty, string_ty, array_ty, open_ty, record_ty, record_of, BaseTree, no_base, base_of, FieldsTree, no_fields, more_fields}
 use Rattle.oberon_types.specs.Memory.{plain_ty, plain_record, base_option, fields_list}
-use Rattle.oberon_types.proofs.TypeMemory.{record_made}
 use Rattle.iface_key.specs.Keys.{number_then, bool_then, text_then, option_then, origin_then, type_then, record_then, base_then, fields_then}
 use Rattle.iface_key.specs.Views.{nesting_of_fields}
 use Rattle.iface_key.specs.Read.{BeginsWithNone, Any}
@@ -99,11 +98,11 @@ module _ (depth : ℕ) (text : List ℕ) where
             let l = fields_one fields fs _ _ (sym read3 ∙ k.1) in
             none n _ tt l.1
 
-pub record_read : (text t1 t2 t3 behind : List ℕ) (o : Origin) (b : Option (Arc RecordTy Global)) (fs : Vec Field Global) (n : ℕ) (x : RecordTy) → text ≡ origin_then o t1 → t1 ≡ base_then (base_option b) t2 → t2 ≡ fields_then (fields_list fs.items) t3 → t3 ≡ number_then n behind → x ≡ roll-RecordTy (record { origin = o; base = b; fields = fs; size = n }) → text ≡ record_then (plain_record x) behind
+pub record_read : (text t1 t2 t3 behind : List ℕ) (o : Origin) (b : Option (Arc RecordTy Global)) (fs : Vec Field Global) (n : ℕ) (x : RecordTy) → text ≡ origin_then o t1 → t1 ≡ base_then (base_option b) t2 → t2 ≡ fields_then (fields_list fs.items) t3 → t3 ≡ number_then n behind → plain_record x ≡ record_of o (base_option b) (fields_list fs.items) n → text ≡ record_then (plain_record x) behind
 record_read text t1 t2 t3 behind o b fs n x read1 read2 read3 read4 made =
     read1
     ∙ ap (origin_then o) (read2 ∙ ap (base_then (base_option b)) (read3 ∙ ap (fields_then (fields_list fs.items)) read4))
-    ∙ ap (λ r. record_then r behind) (sym (ap plain_record made ∙ record_made o b fs n))
+    ∙ ap (λ r. record_then r behind) (sym made)
 
 pub no_base_mark : (depth : ℕ) (text : List ℕ) → BeginsWithNone bool_then Any text → BeginsWithNone base_then (IsBaseIn depth) text
 no_base_mark depth text none no_base rest is e = none false rest tt e

@@ -1,13 +1,13 @@
 ghost use Rattle.std.specs.Prelude.{◌∷◌, ◌<◌, map, length, slice_get, IfOk, OnOk};
 ghost use Rattle.std.specs.Option.{option_map};
-ghost use Rattle.oberon_types.specs.Memory.{plain_ty, plain_record, base_option, fields_list, plain_param, plain_signature, plain_entity, plain_export, plain_view};
+ghost use Rattle.oberon_types.specs.Memory.{plain_ty, plain_record, base_option, fields_in, types_in, type_at, plain_param, plain_signature, plain_entity, plain_export, plain_view};
 ghost use Rattle.iface_key.specs.Keys.{number_then, bool_then, integer_then, text_then, list_then, option_then, value_then, step_then, origin_then, type_then, record_then, base_then, fields_then, param_then, signature_then, entity_then, export_then, view_then, KeyOf};
 ghost use Rattle.iface_key.specs.Printed.{Prints, found_then};
 
 use crate::key::Key;
 use indexmap::IndexMap;
 use ob_text::{Name, NoMemory};
-use oberon_types::{Entity, Field, Origin, Param, RecordTy, Signature, Step, Ty, Value, View};
+use oberon_types::{Entity, FieldName, Origin, Param, RecordTy, Signature, Step, Ty, Value, View};
 use std::alloc::Global;
 use std::sync::Arc;
 
@@ -180,7 +180,7 @@ fn put_record(key: &mut Vec<u8>, given: &RecordTy) -> Result<(), NoMemory>
 {
     put_origin(key, &given.origin)?;
     put_base(key, &given.base)?;
-    put_fields(key, given.fields.as_slice())?;
+    put_fields(key, given)?;
     put_number(key, given.size)
 }
 
@@ -198,16 +198,27 @@ fn put_base(key: &mut Vec<u8>, base: &Option<Arc<RecordTy>>) -> Result<(), NoMem
 }
 
 #[cycle(put)]
-fn put_fields(key: &mut Vec<u8>, fields: &[Field]) -> Result<(), NoMemory>
-    ensures { OnOk result (Prints (fields_then (fields_list fields.now)) key.old.items key.new.items) }
+fn put_fields(key: &mut Vec<u8>, given: &RecordTy) -> Result<(), NoMemory>
+    ensures { OnOk result (Prints (fields_then (fields_in given.now)) key.old.items key.new.items) }
 {
-    for field in fields {
+    for field in given.names.as_slice() {
         put_byte(key, 1)?;
         put_text(key, field.name.as_slice())?;
         put_bool(key, field.exported)?;
-        put_type(key, &field.ty)?;
+        put_field_type(key, given, field)?;
     }
     put_byte(key, 0)
+}
+
+/// The type of a field of this record.
+#[cycle(put)]
+fn put_field_type(key: &mut Vec<u8>, given: &RecordTy, field: &FieldName) -> Result<(), NoMemory>
+    ensures { OnOk result (Prints (type_then (type_at (types_in given.now) field.now.ty)) key.old.items key.new.items) }
+{
+    match given.type_of(field) {
+        Some(ty) => put_type(key, ty),
+        None => put_byte(key, 0),
+    }
 }
 
 // ---- what is exported

@@ -1,5 +1,6 @@
-ghost use Rattle.std.specs.Prelude.{ℕ, List, ◌≡◌, ◌∷◌, ◌<◌, MatchOption};
+ghost use Rattle.std.specs.Prelude.{ℕ, List, ◌≡◌, ◌∷◌, ◌<◌, IfOk, MatchOption};
 ghost use Rattle.std.specs.Option.{option_map};
+ghost use Rattle.oberon_types.specs.Types.{record_of};
 ghost use Rattle.oberon_types.specs.Memory.{plain_ty, base_option};
 ghost use Rattle.iface_key.specs.Keys.{option_then, type_then, record_then, base_then, fields_then};
 ghost use Rattle.iface_key.specs.Read.{Reads};
@@ -8,7 +9,8 @@ ghost use Rattle.iface_key.specs.ReadTypes.{record_at, fields_of, plain_field, f
 use crate::fault::Fault;
 use crate::reading::{read_bool, read_byte, read_number};
 use crate::reading_parts::{read_name, read_origin};
-use oberon_types::{Field, RecordTy, Ty};
+use ob_text::NoMemory;
+use oberon_types::{Field, Origin, RecordTy, Ty};
 use std::alloc::Global;
 use std::sync::Arc;
 
@@ -100,14 +102,23 @@ fn read_record(alloc: Global, text: &[u8], depth: u32) -> Result<(Arc<RecordTy>,
     let (base, behind_base) = read_base(alloc, behind_origin, depth - 1)?;
     let (fields, behind_fields) = read_fields(alloc, behind_base, depth - 1)?;
     let (size, behind) = read_number(behind_fields)?;
-    let made = RecordTy {
-        origin,
-        base,
-        fields,
-        size,
-    };
-    let given = Arc::new(alloc, made)?;
+    let given = made_record(alloc, origin, base, fields, size)?;
     Ok((given, behind))
+}
+
+/// The record type of these parts. The calls within each other that read types don't hold what this one does.
+#[inline(never)]
+fn made_record(
+    alloc: Global,
+    origin: Origin,
+    base: Option<Arc<RecordTy>>,
+    fields: Vec<Field>,
+    size: u32,
+) -> Result<Arc<RecordTy>, NoMemory>
+    ensures { IfOk result (λ given. record_at given ≡ record_of origin (base_option base) (fields_of fields) size) }
+{
+    let made = RecordTy::of(alloc, origin, base, fields, size)?;
+    Ok(Arc::new(alloc, made)?)
 }
 
 #[cycle(read)]

@@ -127,24 +127,14 @@ fn record(alloc: Global, given: Sample) -> Result<RecordTy, NoMemory> {
             ty: Ty::Byte,
         })?;
     }
-    Ok(RecordTy {
-        origin,
-        base,
-        fields,
-        size: given.size,
-    })
+    RecordTy::of(alloc, origin, base, fields, given.size)
 }
 
 fn base(alloc: Global, given: Sample) -> Result<Option<Arc<RecordTy>>, NoMemory> {
     if !given.has_base {
         return Ok(None);
     }
-    let made = RecordTy {
-        origin: origin(alloc, first())?,
-        base: None,
-        fields: Vec::new(alloc),
-        size: 0,
-    };
+    let made = RecordTy::of(alloc, origin(alloc, first())?, None, Vec::new(alloc), 0)?;
     Ok(Some(Arc::new(alloc, made)?))
 }
 

@@ -137,10 +137,10 @@ fn put_parts(out: &mut String, given: &RecordTy) -> Result<(), AllocError> {
         out.push_str(" over ")?;
         put_origin(out, &base.origin)?;
     }
-    for field in &given.fields {
+    for field in given.names.as_slice() {
         out.push_str(", ")?;
         put_name(out, &field.name)?;
-        put_kind(out, &field.ty)?;
+        put_kind(out, given.type_of(field).unwrap_or(&Ty::Unknown))?;
     }
     Ok(())
 }

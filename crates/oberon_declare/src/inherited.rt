@@ -1,14 +1,15 @@
 ghost use Rattle.std.specs.Prelude.{◌≡◌, ◌&&◌, [], is_some, IfOk, OnOk};
 ghost use Rattle.std.specs.List.{list_any};
-ghost use Rattle.oberon_types.specs.Memory.{plain_record, base_option, fields_list};
+ghost use Rattle.oberon_types.specs.Memory.{plain_record, base_option};
 ghost use Rattle.oberon_types.specs.Types.{same_name, base_of};
-ghost use Rattle.oberon_types.specs.Sizes.{sees, field_in, field_of, field_of_base};
+ghost use Rattle.oberon_types.specs.Sizes.{sees, field_of, field_of_base};
+ghost use Rattle.oberon_types.specs.Names.{seen_in};
 ghost use Rattle.oberon_declare.specs.Inherited.{Inherits, Finds};
 
 use indexmap::IndexSet;
 use ob_text::{Name, NoMemory};
 use oberon_tree::{FieldLists, IdentDefs};
-use oberon_types::{Field, Origin, RecordTy, sees};
+use oberon_types::{FieldName, Origin, RecordTy, sees};
 use std::alloc::Global;
 use std::sync::Arc;
 
@@ -107,7 +108,7 @@ fn find_in_record(
         alloc,
         me,
         &given.origin,
-        given.fields.as_slice(),
+        given.names.as_slice(),
         asked,
         found,
     )?;
@@ -134,11 +135,11 @@ fn find_in_fields(
     alloc: Global,
     me: &Name,
     origin: &Origin,
-    fields: &[Field],
+    fields: &[FieldName],
     asked: &IndexSet<Name>,
     found: &mut IndexSet<Name>,
 ) -> Result<(), NoMemory>
-    ensures { OnOk result (Finds asked.now.keys found.old.keys found.new.keys (λ x. is_some (field_in me.now origin.now x (fields_list fields.now)))) }
+    ensures { OnOk result (Finds asked.now.keys found.old.keys found.new.keys (λ x. is_some (seen_in me.now origin.now x fields.now))) }
 {
     for field in fields {
         find_in_field(alloc, me, origin, field, asked, found)?;
@@ -150,7 +151,7 @@ fn find_in_field(
     alloc: Global,
     me: &Name,
     origin: &Origin,
-    field: &Field,
+    field: &FieldName,
     asked: &IndexSet<Name>,
     found: &mut IndexSet<Name>,
 ) -> Result<(), NoMemory>
@@ -163,7 +164,7 @@ fn find_in_field(
 }
 
 /// Whether the field is asked for and visible.
-fn is_wanted(me: &Name, origin: &Origin, field: &Field, asked: &IndexSet<Name>) -> bool
+fn is_wanted(me: &Name, origin: &Origin, field: &FieldName, asked: &IndexSet<Name>) -> bool
     ensures { result ≡ (list_any (same_name field.now.name) asked.now.keys && sees me.now origin.now field.now.exported) }
 {
     asked.contains(&field.name) && sees(me, origin, field.exported)

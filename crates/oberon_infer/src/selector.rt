@@ -17,7 +17,7 @@ use crate::names::of_view;
 use crate::rows::{add_value_row, add_whole_row};
 use crate::said::{Said, add_broken, add_named, add_row};
 use crate::scope::Scopes;
-use crate::type_ref::{TypeRef, borrowed, is_extension};
+use crate::type_ref::{TypeRef, borrowed, field_type, is_extension};
 use crate::word::{Given, word_called};
 use ob_text::{Code, Name, NoMemory, Span};
 use oberon_tree::{Exprs, Member};
@@ -81,7 +81,7 @@ fn select_record<'b, 'a>(
 {
     match field_of(me, &at.name.name, given) {
         Some(ty) => Ok(Ex::Variable {
-            ty: borrowed(ty),
+            ty: field_type(ty),
             read_only,
             by_var: false,
         }),

@@ -1,6 +1,6 @@
 ghost use Rattle.std.specs.Prelude.{◌≡◌};
 ghost use Rattle.oberon_types.specs.Types.{same_type, assignable, string_ty, array_ty};
-ghost use Rattle.oberon_types.specs.Memory.{plain_ty};
+ghost use Rattle.oberon_types.specs.Memory.{plain_ty, known_or_unknown};
 ghost use Rattle.oberon_rules.specs.Operators.{operand_class, element_class};
 ghost use Rattle.oberon_rules.specs.Expressions.{is_unknown, is_whole, is_ordinal, is_or_extends, is_extension, element_type};
 ghost use Rattle.oberon_infer.specs.Memory.{plain_type, plain_type_option, plain_class};
@@ -41,6 +41,16 @@ pub fn borrowed<'b>(ty: &'b Ty) -> TypeRef<'b>
         },
         Ty::Open { element } => TypeRef::Open { element },
         Ty::Record(record) => TypeRef::Record(record),
+    }
+}
+
+/// The type of a field; an unknown one in place of none.
+pub fn field_type<'b>(ty: Option<&'b Ty>) -> TypeRef<'b>
+    ensures { plain_type result ≡ known_or_unknown ty.entry }
+{
+    match ty {
+        Some(ty) => borrowed(ty),
+        None => TypeRef::Unknown,
     }
 }
 

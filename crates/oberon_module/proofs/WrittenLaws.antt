@@ -1,18 +1,18 @@
 -- Types as views have them, over the types in memory.
-use Rattle.std.specs.Prelude.{ℕ, ◌≡◌, ◌+◌, ◌-◌, Bool, true, false, List, [], ◌∷◌, ◌++◌, Option, if◌then◌else◌, refl}
+use Rattle.std.specs.Prelude.{ℕ, ◌≡◌, ◌+◌, ◌-◌, Bool, true, false, List, [], ◌∷◌, ◌++◌, if◌then◌else◌, refl}
 use Rattle.std.proofs.Common.{ap, sym, ◌∙◌, arith}
-use Rattle.std.specs.declared.alloc.Global.{Global}
-use Rattle.std.specs.declared.vec.Vec.{Vec}
-use Rattle.std.specs.declared.sync.Arc.{Arc}
 use Rattle.oberon_types.specs.declared.origin.Origin.{Origin}
 use Rattle.oberon_types.specs.declared.ty.Field.{Field}
-use Rattle.oberon_types.specs.declared.ty.RecordTy.{RecordTy, roll-RecordTy, out-RecordTy}
-use Rattle.oberon_types.specs.Memory.{plain_ty, plain_record, base_option, fields_list}
+use Rattle.oberon_types.specs.declared.ty.RecordTy.{RecordTy, out-RecordTy}
+use Rattle.oberon_types.specs.declared.names.KnownField.{KnownField}
+use Rattle.oberon_types.specs.Names.{known_of}
+use Rattle.oberon_types.specs.Memory.{plain_ty, plain_record, base_option, fields_list, fields_in, types_in, named_fields}
 use Rattle.oberon_types.specs.Sizes.{size_of_record, weight, weight_of_record, weight_of_base, weight_of_fields}
 use Rattle.oberon_types.specs.Types.{TyTree, RecordTree, record_of, origin_of, BaseTree, FieldsTree, no_fields, more_fields}
-use Rattle.oberon_types.proofs.TypeMemory.{record_made, record_out}
+use Rattle.oberon_types.proofs.TypeMemory.{record_out, record_types, fields_out}
+use Rattle.oberon_types.proofs.WeightLaws.{known_sum, known_is_sum}
 use Rattle.oberon_rules.specs.Views.{written, kept_fields}
-use Rattle.oberon_module.specs.Written.{written_record, written_base, written_fields, fields_then, weight_of_field, weight_of_written}
+use Rattle.oberon_module.specs.Written.{written_record, written_base, written_fields, fields_then, weight_of_written}
 
 -- ---- fields
 
@@ -34,52 +34,59 @@ then_last (g ∷ fs) f rest = ap (more_fields g.name g.exported (plain_ty g.ty))
 
 -- ---- records
 
-pub written_out : (x : RecordTy) (b : BaseTree) (fs : FieldsTree) → b ≡ written_base (base_option (out-RecordTy x).base) → fs ≡ written_fields (fields_list (out-RecordTy x).fields.items) → record_of (origin_of (plain_record x)) b fs (size_of_record (plain_record x)) ≡ written_record (plain_record x)
+pub written_out : (x : RecordTy) (b : BaseTree) (fs : FieldsTree) → b ≡ written_base (base_option (out-RecordTy x).base) → fs ≡ written_fields (fields_in x) → record_of (origin_of (plain_record x)) b fs (size_of_record (plain_record x)) ≡ written_record (plain_record x)
 written_out x b fs e f =
     let o = (out-RecordTy x).origin in
     let n = (out-RecordTy x).size in
-    ap (λ (r : RecordTree). record_of (origin_of r) b fs (size_of_record r)) (record_out x)
+    let made = f ∙ ap written_fields (fields_out x) ∙ sym (kept_is o (named_fields (out-RecordTy x).names.value (types_in x))) in
+    ap (λ (r : RecordTree). record_of (origin_of r) b fs (size_of_record r)) (record_types x)
     ∙ ap (λ (c : BaseTree). record_of o c fs n) e
-    ∙ ap (λ (gs : FieldsTree). record_of o (written_base (base_option (out-RecordTy x).base)) gs n) (f ∙ sym (kept_is o (fields_list (out-RecordTy x).fields.items)))
-    ∙ sym (ap written_record (record_out x))
+    ∙ ap (λ (gs : FieldsTree). record_of o (written_base (base_option (out-RecordTy x).base)) gs n) made
+    ∙ sym (ap written_record (record_types x))
 
 pub origin_out : (x : RecordTy) → (out-RecordTy x).origin ≡ origin_of (plain_record x)
 origin_out x = sym (ap origin_of (record_out x))
 
 -- ---- weights
 
-weigh_by : (b : Bool) (me : List ℕ) (o : Origin) (name : List ℕ) (t : TyTree) (fs : FieldsTree) (n : ℕ) → weight_of_fields [] o fs ≡ n → weight_of_fields [] o (if b then more_fields name b (written t) fs else fs) ≡ weight_of_field b t + n
-weigh_by true me o name t fs n e = ap (λ k. weight [] (written t) + k) e
-weigh_by false me o name t fs n e = e ∙ omega arith
+weigh_by : (b : Bool) (o : Origin) (name : List ℕ) (t : TyTree) (fs : FieldsTree) (n : ℕ) → weight_of_fields [] o fs ≡ n → weight_of_fields [] o (if b then more_fields name b (written t) fs else fs) ≡ (if b then weight [] (written t) + n else n)
+weigh_by true o name t fs n e = ap (λ k. weight [] (written t) + k) e
+weigh_by false o name t fs n e = e
 
 fields_weigh : (o : Origin) (fs : FieldsTree) → weight_of_fields [] o (kept_fields (λ o exported. exported) o fs) ≡ weight_of_written fs
 fields_weigh o no_fields = refl
-fields_weigh o (more_fields name exported t fs) = weigh_by exported [] o name t (kept_fields (λ o exported. exported) o fs) (weight_of_written fs) (fields_weigh o fs)
+fields_weigh o (more_fields name exported t fs) = weigh_by exported o name t (kept_fields (λ o exported. exported) o fs) (weight_of_written fs) (fields_weigh o fs)
+
+-- what a type weighs as views have it
+abbrev pub weight_written : TyTree → ℕ
+weight_written t = weight [] (written t)
+
+pub known_weigh : (x : RecordTy) (ks : List KnownField) → ks ≡ known_of (out-RecordTy x).names.value → known_sum weight_written (λ exported. exported) (types_in x) ks ≡ weight_of_written (fields_in x)
+known_weigh x ks e = known_is_sum weight_written (λ exported. exported) weight_of_written refl refl (λ name exported t fs. refl) x ks e
 
 left_over : (left b f : ℕ) → left - 1 - b - f ≡ left - (1 + b + f)
 left_over left b f = omega arith
 
-pub record_weighs : (x : RecordTy) (fs : List Field) (left behind over : ℕ) → fs ≡ (out-RecordTy x).fields.items → behind ≡ left - 1 - weight_of_base [] (written_base (base_option (out-RecordTy x).base)) → over ≡ behind - weight_of_written (fields_list fs) → over ≡ left - weight_of_record [] (written_record (plain_record x))
-record_weighs x fs left behind over items e f =
+pub record_weighs : (x : RecordTy) (left behind over : ℕ) → behind ≡ left - 1 - weight_of_base [] (written_base (base_option (out-RecordTy x).base)) → over ≡ behind - weight_of_written (fields_in x) → over ≡ left - weight_of_record [] (written_record (plain_record x))
+record_weighs x left behind over e f =
     let b = weight_of_base [] (written_base (base_option (out-RecordTy x).base)) in
-    let gs = fields_list (out-RecordTy x).fields.items in
-    f ∙ ap (λ n. n - weight_of_written (fields_list fs)) e
-    ∙ ap (λ (ys : List Field). left - 1 - b - weight_of_written (fields_list ys)) items
-    ∙ left_over left b (weight_of_written gs)
-    ∙ ap (λ n. left - (1 + b + n)) (sym (fields_weigh (out-RecordTy x).origin gs))
-    ∙ ap (λ w. left - w) (sym (ap (λ (r : RecordTree). weight_of_record [] (written_record r)) (record_out x)))
+    let fs = named_fields (out-RecordTy x).names.value (types_in x) in
+    f ∙ ap (λ n. n - weight_of_written (fields_in x)) e
+    ∙ ap (λ (gs : FieldsTree). left - 1 - b - weight_of_written gs) (fields_out x)
+    ∙ left_over left b (weight_of_written fs)
+    ∙ ap (λ n. left - (1 + b + n)) (sym (fields_weigh (out-RecordTy x).origin fs))
+    ∙ ap (λ w. left - w) (sym (ap (λ (r : RecordTree). weight_of_record [] (written_record r)) (record_types x)))
 
 -- ---- what is made
 
 size_out : (x : RecordTy) → (out-RecordTy x).size ≡ size_of_record (plain_record x)
 size_out x = sym (ap size_of_record (record_out x))
 
-pub remade_is : (x made : RecordTy) (o : Origin) (b : Option (Arc RecordTy Global)) (fs : Vec Field Global) → made ≡ roll-RecordTy (record { origin = o; base = b; fields = fs; size = (out-RecordTy x).size }) → o ≡ (out-RecordTy x).origin → plain_record made ≡ record_of (origin_of (plain_record x)) (base_option b) (fields_list fs.items) (size_of_record (plain_record x))
+pub remade_is : (x : RecordTy) (made : RecordTree) (o : Origin) (b : BaseTree) (fs : FieldsTree) → made ≡ record_of o b fs (out-RecordTy x).size → o ≡ (out-RecordTy x).origin → made ≡ record_of (origin_of (plain_record x)) b fs (size_of_record (plain_record x))
 remade_is x made o b fs new e =
-    ap plain_record new
-    ∙ record_made o b fs (out-RecordTy x).size
-    ∙ ap (λ (o : Origin). record_of o (base_option b) (fields_list fs.items) (out-RecordTy x).size) (e ∙ origin_out x)
-    ∙ ap (record_of (origin_of (plain_record x)) (base_option b) (fields_list fs.items)) (size_out x)
+    new
+    ∙ ap (λ (p : Origin). record_of p b fs (out-RecordTy x).size) (e ∙ origin_out x)
+    ∙ ap (record_of (origin_of (plain_record x)) b fs) (size_out x)
 
 pub kept_when : (b : Bool) (name m : List ℕ) (t u : TyTree) (rest : FieldsTree) → b ≡ true → name ≡ m → t ≡ u → more_fields name true t rest ≡ (if b then more_fields m b u rest else rest)
 kept_when true name m t u rest h e f = ap (λ (k : List ℕ). more_fields k true t rest) e ∙ ap (λ (v : TyTree). more_fields m true v rest) f

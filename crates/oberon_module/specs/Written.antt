@@ -1,8 +1,8 @@
 -- Types, records and fields as views have them, and what they weigh.
-use Rattle.std.specs.Prelude.{ℕ, ◌+◌, Bool, if◌then◌else◌, [], Option, Some, None}
+use Rattle.std.specs.Prelude.{ℕ, ◌+◌, if◌then◌else◌, [], Option, Some, None}
 use Rattle.oberon_types.specs.declared.ty.Field.{Field}
 use Rattle.oberon_types.specs.Memory.{plain_ty}
-use Rattle.oberon_types.specs.Types.{TyTree, RecordTree, BaseTree, FieldsTree, no_fields, more_fields}
+use Rattle.oberon_types.specs.Types.{RecordTree, BaseTree, FieldsTree, no_fields, more_fields}
 use Rattle.oberon_types.specs.Sizes.{weight}
 use Rattle.oberon_rules.specs.Views.{written, kept_record, kept_base}
 
@@ -27,10 +27,7 @@ abbrev pub field_then : Option Field → FieldsTree → FieldsTree
 field_then None gs = gs
 field_then (Some f) gs = more_fields f.name f.exported (plain_ty f.ty) gs
 
--- what a field weighs, and what fields weigh
-abbrev pub weight_of_field : Bool → TyTree → ℕ
-weight_of_field exported t = if exported then weight [] (written t) else 0
-
+-- what the exported fields weigh
 abbrev pub weight_of_written : FieldsTree → ℕ
 weight_of_written no_fields = 0
-weight_of_written (more_fields name exported t fs) = weight_of_field exported t + weight_of_written fs
+weight_of_written (more_fields name exported t fs) = if exported then weight [] (written t) + weight_of_written fs else weight_of_written fs

@@ -1,13 +1,13 @@
-ghost use Rattle.std.specs.Prelude.{◌≡◌, ◌-◌, [], IfOk, OnOk};
-ghost use Rattle.oberon_types.specs.Memory.{plain_ty, plain_record, base_option, fields_list};
+ghost use Rattle.std.specs.Prelude.{◌≡◌, ◌-◌, [], Some, IfOk, OnOk};
+ghost use Rattle.oberon_types.specs.Memory.{plain_ty, plain_record, base_option, fields_list, fields_in, types_in, type_at};
 ghost use Rattle.oberon_types.specs.Sizes.{size_of_record, weight, weight_of_record, weight_of_base};
 ghost use Rattle.oberon_types.specs.Types.{record_of, origin_of, more_fields, FieldsTree};
 ghost use Rattle.oberon_rules.specs.Views.{written};
-ghost use Rattle.oberon_module.specs.Written.{written_record, written_base, written_fields, weight_of_field, weight_of_written, fields_then, field_then};
+ghost use Rattle.oberon_module.specs.Written.{written_record, written_base, written_fields, weight_of_written, fields_then, field_then};
 
 use ob_text::NoMemory;
 use oberon_declare::copy_origin;
-use oberon_types::{Field, RecordTy, Ty};
+use oberon_types::{Field, FieldName, RecordTy, Ty};
 use std::alloc::Global;
 use std::sync::Arc;
 
@@ -46,7 +46,7 @@ fn written_record(alloc: Global, given: &RecordTy) -> Result<Arc<RecordTy>, NoMe
     ensures { IfOk result (λ r. plain_record r.value ≡ written_record (plain_record given.now)) }
 {
     let base = written_base(alloc, &given.base)?;
-    let fields = written_fields(alloc, given.fields.as_slice())?;
+    let fields = written_fields(alloc, given)?;
     remade(alloc, given, base, fields)
 }
 
@@ -60,12 +60,8 @@ fn remade(
     ensures { IfOk result (λ r. plain_record r.value
         ≡ record_of (origin_of (plain_record given.now)) (base_option base) (fields_list fields.items) (size_of_record (plain_record given.now))) }
 {
-    let made = RecordTy {
-        origin: copy_origin(alloc, &given.origin)?,
-        base,
-        fields,
-        size: given.size,
-    };
+    let origin = copy_origin(alloc, &given.origin)?;
+    let made = RecordTy::of(alloc, origin, base, fields, given.size)?;
     Ok(Arc::new(alloc, made)?)
 }
 
@@ -83,12 +79,12 @@ fn written_base(
 }
 
 #[cycle(written)]
-fn written_fields(alloc: Global, fields: &[Field]) -> Result<Vec<Field>, NoMemory>
-    ensures { IfOk result (λ fs. fields_list fs.items ≡ written_fields (fields_list fields.now)) }
+fn written_fields(alloc: Global, given: &RecordTy) -> Result<Vec<Field>, NoMemory>
+    ensures { IfOk result (λ fs. fields_list fs.items ≡ written_fields (fields_in given.now)) }
 {
     let mut kept = Vec::new(alloc);
-    for field in fields {
-        let shown = written_field(alloc, field)?;
+    for field in given.names.as_slice() {
+        let shown = written_field(alloc, given, field)?;
         add_shown(&mut kept, shown)?;
     }
     Ok(kept)
@@ -96,19 +92,33 @@ fn written_fields(alloc: Global, fields: &[Field]) -> Result<Vec<Field>, NoMemor
 
 /// The field as a view has it, if it is exported.
 #[cycle(written)]
-fn written_field(alloc: Global, field: &Field) -> Result<Option<Field>, NoMemory>
+fn written_field(
+    alloc: Global,
+    given: &RecordTy,
+    field: &FieldName,
+) -> Result<Option<Field>, NoMemory>
     ensures { IfOk result (λ shown. (rest : FieldsTree) → field_then shown (written_fields rest)
-        ≡ written_fields (more_fields field.now.name field.now.exported (plain_ty field.now.ty) rest)) }
+        ≡ written_fields (more_fields field.now.name field.now.exported (type_at (types_in given.now) field.now.ty) rest)) }
 {
     if !field.exported {
         return Ok(None);
     }
-    let ty = written(alloc, &field.ty)?;
+    let ty = written_known(alloc, given, field)?;
     Ok(Some(Field {
         name: field.name.copy(alloc)?,
         exported: true,
         ty,
     }))
+}
+
+#[cycle(written)]
+fn written_known(alloc: Global, given: &RecordTy, field: &FieldName) -> Result<Ty, NoMemory>
+    ensures { IfOk result (λ t. plain_ty t ≡ written (type_at (types_in given.now) field.now.ty)) }
+{
+    match given.type_of(field) {
+        Some(ty) => written(alloc, ty),
+        None => Ok(Ty::Unknown),
+    }
 }
 
 fn add_shown(kept: &mut Vec<Field>, shown: Option<Field>) -> Result<(), NoMemory>
@@ -121,8 +131,8 @@ fn add_shown(kept: &mut Vec<Field>, shown: Option<Field>) -> Result<(), NoMemory
     Ok(())
 }
 
-/// What the weight of the type as a view has it leaves over. Takes no memory. Of what weighs something it looks at no
-/// more than is left.
+/// What the weight of the type as a view has it leaves over. Takes no memory. It looks at no more parts than
+/// what is left.
 #[cycle(left)]
 pub fn weight_left(ty: &Ty, left: u32) -> u32
     ensures { result ≡ left - weight [] (written (plain_ty ty.now)) }
@@ -146,7 +156,7 @@ fn record_left(given: &RecordTy, left: u32) -> u32
     ensures { result ≡ left - weight_of_record [] (written_record (plain_record given.now)) }
 {
     let behind = base_left(&given.base, left.saturating_sub(1));
-    fields_left(given.fields.as_slice(), behind)
+    fields_left(given, behind)
 }
 
 #[cycle(left)]
@@ -159,27 +169,30 @@ fn base_left(base: &Option<Arc<RecordTy>>, left: u32) -> u32
     }
 }
 
+/// What is left behind the fields. Those of unknown types weigh nothing, and aren't gone over.
 #[cycle(left)]
-fn fields_left(fields: &[Field], left: u32) -> u32
-    ensures { result ≡ left - weight_of_written (fields_list fields.now) }
+fn fields_left(given: &RecordTy, left: u32) -> u32
+    ensures { result ≡ left - weight_of_written (fields_in given.now) }
 {
     let mut left = left;
-    for field in fields {
+    for field in given.names.known() {
         if left == 0 {
             return 0;
         }
-        left = field_left(field, left);
+        if field.exported {
+            left = known_left(given, field.ty, left);
+        }
     }
     left
 }
 
+/// What is left behind the type at an index.
 #[cycle(left)]
-fn field_left(field: &Field, left: u32) -> u32
-    ensures { result ≡ left - weight_of_field field.now.exported (plain_ty field.now.ty) }
+fn known_left(given: &RecordTy, at: usize, left: u32) -> u32
+    ensures { result ≡ left - weight [] (written (type_at (types_in given.now) (Some at))) }
 {
-    if field.exported {
-        weight_left(&field.ty, left)
-    } else {
-        left
+    match given.type_at(at) {
+        Some(ty) => weight_left(ty, left),
+        None => left,
     }
 }

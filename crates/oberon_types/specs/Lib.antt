@@ -3,4 +3,5 @@ pub mod Entities
 pub mod Folding
 pub mod Memory
 pub mod Sizes
+pub mod Names
 pub mod Types

@@ -1,9 +1,9 @@
-ghost use Rattle.std.specs.Prelude.{◌≡◌, ◌-◌, ◌^◌, min};
+ghost use Rattle.std.specs.Prelude.{◌≡◌, Some, ◌-◌, ◌^◌, min};
 ghost use Rattle.oberon_types.specs.Sizes.{size_of, size_of_record, size_of_base, size_of_fields, weight, weight_of_record, weight_of_base, weight_of_fields, sees, too_large};
-ghost use Rattle.oberon_types.specs.Memory.{plain_ty, plain_record, base_option, fields_list};
+ghost use Rattle.oberon_types.specs.Memory.{plain_ty, plain_record, base_option, origin_in, fields_in, types_in, type_at};
 
 use crate::origin::Origin;
-use crate::ty::{Field, RecordTy, Ty};
+use crate::ty::{RecordTy, Ty};
 use ob_text::Name;
 use std::sync::Arc;
 
@@ -37,8 +37,8 @@ pub(crate) fn record_size(given: &RecordTy) -> u32
     given.size
 }
 
-/// Whether the type is above a limit, as far as the module of this stem sees it. Takes no memory. Of what weighs
-/// something it looks at no more than the limit allows.
+/// Whether the type is above a limit, as far as the module of this stem sees it. Takes no memory. It looks at no
+/// more parts than the limit allows.
 pub fn too_large(me: &Name, ty: &Ty) -> bool
     ensures { result ≡ too_large me.now (plain_ty ty.now) }
 {
@@ -69,7 +69,7 @@ fn record_left(me: &Name, given: &RecordTy, left: u32) -> u32
     ensures { result ≡ left - weight_of_record me.now (plain_record given.now) }
 {
     let behind = base_left(me, &given.base, left.saturating_sub(1));
-    fields_left(me, &given.origin, given.fields.as_slice(), behind)
+    fields_left(me, given, behind)
 }
 
 #[cycle(weight)]
@@ -82,20 +82,32 @@ fn base_left(me: &Name, base: &Option<Arc<RecordTy>>, left: u32) -> u32
     }
 }
 
+/// What is left behind the fields. Those of unknown types weigh nothing, and aren't gone over.
 #[cycle(weight)]
-fn fields_left(me: &Name, origin: &Origin, fields: &[Field], left: u32) -> u32
-    ensures { result ≡ left - weight_of_fields me.now origin.now (fields_list fields.now) }
+fn fields_left(me: &Name, given: &RecordTy, left: u32) -> u32
+    ensures { result ≡ left - weight_of_fields me.now (origin_in given.now) (fields_in given.now) }
 {
     let mut left = left;
-    for field in fields {
+    for field in given.names.known() {
         if left == 0 {
             return 0;
         }
-        if sees(me, origin, field.exported) {
-            left = weight_left(me, &field.ty, left);
+        if sees(me, &given.origin, field.exported) {
+            left = known_left(me, given, field.ty, left);
         }
     }
     left
+}
+
+/// What is left behind the type at an index.
+#[cycle(weight)]
+fn known_left(me: &Name, given: &RecordTy, at: usize, left: u32) -> u32
+    ensures { result ≡ left - weight me.now (type_at (types_in given.now) (Some at)) }
+{
+    match given.type_at(at) {
+        Some(ty) => weight_left(me, ty, left),
+        None => left,
+    }
 }
 
 /// Whether the module of this stem sees a field of a record of this origin, given whether it is exported.

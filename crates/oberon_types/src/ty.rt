@@ -2,6 +2,7 @@ ghost use Rattle.std.specs.Prelude.{◌≡◌, IfOk};
 ghost use Rattle.oberon_types.specs.Types.{same_type, assignable, extends, string_ty, array_ty};
 ghost use Rattle.oberon_types.specs.Memory.{plain_ty, plain_record, base_option};
 
+use crate::names::FieldNames;
 use crate::origin::Origin;
 use ob_text::{Name, NoMemory};
 use std::sync::Arc;
@@ -22,12 +23,13 @@ pub enum Ty {
     Record(Arc<RecordTy>),
 }
 
-/// A record type.
+/// A record type: its fields by their names, and the types of those whose type is known.
 #[cycle(ty)]
 pub struct RecordTy {
     pub origin: Origin,
     pub base: Option<Arc<RecordTy>>,
-    pub fields: Vec<Field>,
+    pub names: Box<FieldNames>,
+    pub types: Vec<Ty>,
     pub size: u32,
 }
 
@@ -37,29 +39,19 @@ impl Drop for RecordTy {
         let Self {
             origin: _,
             base: _,
-            fields: _,
+            names: _,
+            types: _,
             size: _,
         } = self;
     }
 }
 
 /// A field.
-#[cycle(ty)]
+#[derive(Drop)]
 pub struct Field {
     pub name: Name,
     pub exported: bool,
     pub ty: Ty,
-}
-
-impl Drop for Field {
-    #[cycle(ty)]
-    fn drop(self) {
-        let Self {
-            name: _,
-            exported: _,
-            ty: _,
-        } = self;
-    }
 }
 
 impl Ty {

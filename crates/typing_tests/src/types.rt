@@ -105,6 +105,89 @@ fn fields(rt: HostRuntime) -> Result<(), Fail> {
     Ok(())
 }
 
+/// Names of fields, and their sizes.
+const SIZED: [(u8, u32); 12] = [
+    (b'a', 1),
+    (b'b', 2),
+    (b'c', 3),
+    (b'd', 4),
+    (b'e', 5),
+    (b'f', 6),
+    (b'g', 7),
+    (b'h', 8),
+    (b'i', 9),
+    (b'j', 10),
+    (b'k', 11),
+    (b'l', 12),
+];
+
+/// A record of the module M with so many fields and then one more `b`. Of every third the type isn't known; every second is
+/// exported, from the first on.
+fn lettered(alloc: Global, count: usize) -> Result<RecordTy, NoMemory> {
+    let me = Name::new(alloc, b"M")?;
+    let mut fields = Vec::new(alloc);
+    for (letter, size) in SIZED.into_iter().take(count) {
+        let ty = match array_type(alloc, &me, size, Ty::Integer)? {
+            Some(ty) if size % 3 != 0 => ty,
+            _ => Ty::Unknown,
+        };
+        fields.push(Field {
+            name: Name::new(alloc, &[letter])?,
+            exported: size % 2 == 1,
+            ty,
+        })?;
+    }
+    fields.push(Field {
+        name: Name::new(alloc, b"b")?,
+        exported: true,
+        ty: Ty::Byte,
+    })?;
+    RecordTy::of(alloc, origin(alloc, "Lettered")?, None, fields, 0)
+}
+
+/// The size of a field as a module sees it: 0 where its type isn't known.
+fn seen_size(
+    alloc: Global,
+    module: &[u8],
+    field: &[u8],
+    given: &RecordTy,
+) -> Result<Option<u32>, NoMemory> {
+    let module = Name::new(alloc, module)?;
+    let field = Name::new(alloc, field)?;
+    Ok(match field_of(&module, &field, given) {
+        Some(Some(ty)) => Some(size_of(ty)),
+        Some(None) => Some(0),
+        None => None,
+    })
+}
+
+#[test]
+fn fields_among_few_and_many(rt: HostRuntime) -> Result<(), Fail> {
+    let alloc = rt.alloc();
+    for count in [7, 8, 12] {
+        let given = lettered(alloc, count)?;
+        for (letter, size) in SIZED {
+            let own = seen_size(alloc, b"M", &[letter], &given)?;
+            let other = seen_size(alloc, b"N", &[letter], &given)?;
+            let known = if size % 3 == 0 { 0 } else { size };
+            let there = size as usize <= count;
+            assert_eq!(rt;
+                own,
+                if there { Some(known) } else { None },
+                "{size} of {count}"
+            );
+            // In another module the later `b` is seen alone.
+            let shown = match letter {
+                b'b' => Some(1),
+                _ if there && size % 2 == 1 => Some(known),
+                _ => None,
+            };
+            assert_eq!(rt; other, shown, "{size} of {count}, elsewhere");
+        }
+    }
+    Ok(())
+}
+
 #[test]
 fn hidden_fields(rt: HostRuntime) -> Result<(), Fail> {
     let derived = derived(rt.alloc())?;

@@ -47,7 +47,7 @@ pub read_record-returns-in_err-size : goal.read_record-returns-in_err-size
 read_record-returns-in_err-size t c = exits _ _ c.from_residual-in_err-size.result c.in_err-size.field-0.0 c.from_residual-in_err-size.ensures.1 (λ e. no_record_size c.args.depth c.args.text.now c.in_ok-origin.behind_origin.now c.in_ok-origin.origin c.in_ok-origin.ensures c.in_ok-base.behind_base.now _ c.in_ok-base.ensures c.in_ok-fields.behind_fields.now _ c.in_ok-fields.ensures (c.in_err-size.ensures e))
 
 pub read_record-returns : goal.read_record-returns
-read_record-returns t c = record_read c.args.text.now c.in_ok-origin.behind_origin.now c.in_ok-base.behind_base.now c.in_ok-fields.behind_fields.now c.in_ok-size.behind.now c.in_ok-origin.origin c.in_ok-base.base c.in_ok-fields.fields c.in_ok-size.size c.in_ok-given.given.value c.in_ok-origin.ensures c.in_ok-base.ensures c.in_ok-fields.ensures c.in_ok-size.ensures c.in_ok-given.ensures.ok
+read_record-returns t c = record_read c.args.text.now c.in_ok-origin.behind_origin.now c.in_ok-base.behind_base.now c.in_ok-fields.behind_fields.now c.in_ok-size.behind.now c.in_ok-origin.origin c.in_ok-base.base c.in_ok-fields.fields c.in_ok-size.size c.in_ok-given.given.value c.in_ok-origin.ensures c.in_ok-base.ensures c.in_ok-fields.ensures c.in_ok-size.ensures c.in_ok-given.ensures
 
 pub read_base-returns-in_err-extended : goal.read_base-returns-in_err-extended
 read_base-returns-in_err-extended t c = exits _ _ c.from_residual.result c.in_err-extended.field-0.0 c.from_residual.ensures.1 (λ e. no_base_mark c.args.depth c.args.text.now (c.in_err-extended.ensures e))

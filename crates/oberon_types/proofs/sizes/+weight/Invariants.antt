@@ -1,7 +1,9 @@
 use Rattle.std.specs.Prelude.{◌≡◌, ◌-◌, drop}
-use Rattle.oberon_types.specs.Sizes.{weight_of_fields}
-use Rattle.oberon_types.specs.Memory.{fields_list}
+use Rattle.oberon_types.specs.declared.ty.RecordTy.{out-RecordTy}
+use Rattle.oberon_types.specs.Sizes.{sees, weight}
+use Rattle.oberon_types.specs.Memory.{types_in}
+use Rattle.oberon_types.proofs.WeightLaws.{known_sum}
 use Rattle.oberon_types.proofs.sizes.+weight.Given as goal
 
 abbrev pub invariant-fields_left-loop-field : goal.invariant-fields_left-loop-field
-invariant-fields_left-loop-field l = l.left - weight_of_fields l.me l.origin (fields_list (drop l.field-index l.fields)) ≡ l.initial.left - weight_of_fields l.me l.origin (fields_list l.fields)
+invariant-fields_left-loop-field l = l.left - known_sum (weight l.me) (sees l.me (out-RecordTy l.given).origin) (types_in l.given) (drop l.field-index l.field-items) ≡ l.initial.left - known_sum (weight l.me) (sees l.me (out-RecordTy l.given).origin) (types_in l.given) l.field-items
