@@ -4,8 +4,8 @@ use Rattle.std.specs.Prelude.{Contains}
 use Rattle.ob_text.specs.declared.diagnostic.Diagnostic.{Diagnostic}
 use Rattle.ob_text.specs.declared.held.Held.{Held}
 use Rattle.ob_text.specs.declared.held.Held.TheVariants.{Text, Absent, TooLarge, NotText}
-use Rattle.oberon_check.proofs.Only.{none_bad}
-use Rattle.oberon_parse.specs.Sentence.{most_levels}
+use Rattle.document_rules.proofs.OneDiagnosis.{none_bad}
+use Rattle.document_rules.specs.Sentence.{most_levels}
 use Rattle.oberon_scan.proofs.OneCut.{one_cut}
 use Rattle.oberon_scan.specs.Lexis.{Lex}
 use Rattle.oberon_scan.specs.declared.token.Token.{Token}

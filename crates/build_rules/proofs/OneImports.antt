@@ -2,7 +2,7 @@
 use Rattle.std.proofs.Common.{◌≡◌, ℕ, List, [], sym, ap, subst, ◌∙◌}
 use Rattle.ob_text.specs.declared.held.Held.{Held}
 use Rattle.ob_text.specs.declared.held.Held.TheVariants.{Text, Absent, TooLarge, NotText}
-use Rattle.oberon_imports.proofs.OneList.{one_import_list}
+use Rattle.document_rules.proofs.OneImportList.{one_import_list}
 use Rattle.oberon_scan.proofs.OneCut.{one_cut}
 use Rattle.oberon_scan.specs.Lexis.{Lex}
 use Rattle.build_rules.specs.World.{HasImports}

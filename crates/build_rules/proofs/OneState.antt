@@ -3,7 +3,7 @@ use Rattle.std.proofs.Common.{◌≡◌, ℕ, List, [], sym, ap, subst, ◌∙�
 use Rattle.std.specs.Prelude.{Contains}
 use Rattle.ob_text.specs.declared.diagnostic.Diagnostic.{Diagnostic}
 use Rattle.ob_text.specs.declared.held.Held.{Held}
-use Rattle.oberon_imports.specs.Imports.{imports_in}
+use Rattle.document_rules.specs.Imports.{imports_in}
 use Rattle.oberon_scan.proofs.OneCut.{one_cut}
 use Rattle.oberon_scan.specs.Lexis.{Lex}
 use Rattle.oberon_tree.specs.Print.{tokens_of}

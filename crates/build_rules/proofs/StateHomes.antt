@@ -3,7 +3,7 @@
 use Rattle.std.proofs.Common.{◌≡◌, ℕ, Bool, true, false, List, sym, subst, ◌∙◌, refl}
 use Rattle.std.specs.Prelude.{codes, Contains, if◌then◌else◌}
 use Rattle.std.proofs.lemmas.Slice.Eq.{bytes_eq-Decides}
-use Rattle.oberon_imports.specs.Imports.{imports_in}
+use Rattle.document_rules.specs.Imports.{imports_in}
 use Rattle.oberon_tree.specs.Trees.{ModuleTree}
 use Rattle.oberon_types.specs.Entities.{ViewTree, missing_view}
 use Rattle.oberon_types.specs.Types.{same_name}

@@ -9,7 +9,7 @@ use Rattle.std.proofs.lemmas.Slice.Eq.{bytes_eq-Decides}
 use Rattle.ob_text.specs.declared.diagnostic.Diagnostic.{Diagnostic}
 use Rattle.ob_text.specs.declared.held.Held.{Held}
 use Rattle.ob_text.specs.declared.held.Held.TheVariants.{Text, Absent, TooLarge, NotText}
-use Rattle.oberon_imports.specs.Imports.{imports_in}
+use Rattle.document_rules.specs.Imports.{imports_in}
 use Rattle.oberon_scan.specs.Lexis.{Lex}
 use Rattle.oberon_scan.specs.declared.token.Token.{Token}
 use Rattle.oberon_tree.specs.Trees.{ModuleTree}

@@ -8,7 +8,7 @@
 -- HasView and HasLocalList. That both give the same lists is a law of this crate.
 use Rattle.std.specs.Prelude.{◌≡◌, ℕ, codes, List, [], ◌∷◌, if◌then◌else◌, Contains}
 use Rattle.ob_text.specs.declared.diagnostic.Diagnostic.{Diagnostic}
-use Rattle.oberon_imports.specs.Imports.{imports_in}
+use Rattle.document_rules.specs.Imports.{imports_in}
 use Rattle.oberon_tree.specs.Trees.{ModuleTree}
 use Rattle.oberon_types.specs.Entities.{ViewTree, missing_view, broken_view, cyclic_view}
 use Rattle.oberon_types.specs.Types.{same_name}

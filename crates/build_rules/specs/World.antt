@@ -7,8 +7,8 @@ use Rattle.build_plan.specs.Rows.{Leads}
 use Rattle.ob_text.specs.Held.{Entries, held_at}
 use Rattle.ob_text.specs.declared.held.Held.{Held}
 use Rattle.ob_text.specs.declared.held.Held.TheVariants.{Text, Absent}
-use Rattle.oberon_imports.specs.Imports.{imports_in}
-use Rattle.oberon_parse.specs.Sentence.{most_levels}
+use Rattle.document_rules.specs.Imports.{imports_in}
+use Rattle.document_rules.specs.Sentence.{most_levels}
 use Rattle.oberon_scan.specs.Lexis.{Lex}
 use Rattle.oberon_scan.specs.declared.token.Token.{Token}
 use Rattle.oberon_tree.specs.Levels.{depth_of_module}

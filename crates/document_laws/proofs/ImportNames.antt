@@ -6,7 +6,7 @@ use Rattle.std.proofs.lemmas.List.Elements.{Contains-append_left, Contains-push}
 use Rattle.std.proofs.lemmas.Map.Views.{Contains-from_any}
 use Rattle.std.proofs.lemmas.Slice.Eq.{bytes_eq-Decides}
 use Rattle.ob_text.specs.Once.{each_once, once_more}
-use Rattle.oberon_imports.specs.Imports.{imported_name, names_in, imports_in}
+use Rattle.document_rules.specs.Imports.{imported_name, names_in, imports_in}
 use Rattle.oberon_tree.specs.declared.leaf.Ident.{Ident}
 use Rattle.oberon_tree.specs.declared.module.Alias.{Alias}
 use Rattle.oberon_tree.specs.declared.module.Import.{Import}

@@ -2,7 +2,7 @@
 use Rattle.std.specs.Prelude.{ℕ, Contains, ◌≡◌, ◌&&◌, ◌++◌, false, not, if◌then◌else◌, List, [], ◌∷◌, refl}
 use Rattle.std.proofs.Common.{ap, ◌∙◌}
 use Rattle.ob_text.specs.declared.code.Code.TheVariants as codes_of
-use Rattle.oberon_imports.specs.Imports.{imports_in}
+use Rattle.document_rules.specs.Imports.{imports_in}
 use Rattle.oberon_tree.specs.declared.module.Import.{Import}
 use Rattle.oberon_tree.specs.Trees.{ModuleTree}
 use Rattle.oberon_types.specs.Types.{same_name}

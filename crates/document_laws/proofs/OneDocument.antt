@@ -5,9 +5,9 @@ use Rattle.std.proofs.Common.{sym, ◌∙◌, ap, subst, inl, inr}
 use Rattle.ob_text.specs.declared.diagnostic.Diagnostic.{Diagnostic}
 use Rattle.ob_text.specs.declared.held.Held.{Held}
 use Rattle.ob_text.specs.declared.held.Held.TheVariants.{Text, Absent, TooLarge, NotText}
-use Rattle.oberon_check.proofs.Only as only
-use Rattle.oberon_imports.specs.Imports.{imports_in}
-use Rattle.oberon_parse.specs.Sentence.{most_levels}
+use Rattle.document_rules.proofs.OneDiagnosis as only
+use Rattle.document_rules.specs.Imports.{imports_in}
+use Rattle.document_rules.specs.Sentence.{most_levels}
 use Rattle.oberon_rules.specs.Judged.{found, all_said, declared_view}
 use Rattle.oberon_rules.specs.Local.{IsTreeless, TokensLocal, FaultsLocal, TextLocal, Local}
 use Rattle.oberon_rules.specs.Order.{IsListed}

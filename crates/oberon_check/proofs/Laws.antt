@@ -10,7 +10,7 @@ use Rattle.ob_text.specs.declared.held.Held.TheVariants.{Text, Absent, TooLarge,
 use Rattle.oberon_scan.specs.Lexis.{Lex, Cuts, fault_of, offset_of, without_mark}
 use Rattle.oberon_scan.specs.declared.token.Token.{Token}
 use Rattle.oberon_scan.proofs.Going.{gap_goes, token_goes, fault_goes}
-use Rattle.oberon_check.specs.Diagnosed.{Diagnosed, FaultsDiagnosed, IsNameless, IsAscending, no_document, bad_token, bad_span}
+use Rattle.document_rules.specs.Diagnosed.{Diagnosed, FaultsDiagnosed, IsNameless, IsAscending, no_document, bad_token, bad_span}
 use Rattle.oberon_check.proofs.Parts.{mark_within}
 
 -- what is shown, and stands from an offset on

@@ -8,7 +8,7 @@ use Rattle.ob_text.specs.declared.diagnostic.Diagnostic.{Diagnostic}
 use Rattle.oberon_scan.specs.Lexis.{Lex, Cuts, part, without_mark}
 use Rattle.oberon_scan.specs.declared.token.Token.{Token}
 use Rattle.oberon_scan.proofs.Going.{gap_goes, token_goes, fault_goes}
-use Rattle.oberon_check.specs.Diagnosed.{bad_span, end_of_tokens}
+use Rattle.document_rules.specs.Diagnosed.{bad_span, end_of_tokens}
 
 token_part : {text rest : List ℕ} {tokens : List Token} {faults : List Diagnostic} → Cuts text rest tokens faults → length rest ≤ length text → (k : ℕ) (t : Token) → slice_get tokens k ≡ Some t → IsPart text t.span
 token_part Cuts.done h k t e = absurd cc

@@ -4,7 +4,7 @@ ghost use Rattle.ob_text.specs.Held.{IsReadable, IsDocument};
 ghost use Rattle.ob_text.specs.Position.{IsPart};
 ghost use Rattle.ob_text.specs.declared.diagnostic.Diagnostic.{Diagnostic};
 ghost use Rattle.oberon_scan.specs.Lexis.{Lex, too_many_bytes};
-ghost use Rattle.oberon_check.specs.Diagnosed.{Diagnosed, TextDiagnosed, TokensDiagnosed, IsNameless, IsAscending, bad_token, bad_span, end_of_tokens, no_document};
+ghost use Rattle.document_rules.specs.Diagnosed.{Diagnosed, TextDiagnosed, TokensDiagnosed, IsNameless, IsAscending, bad_token, bad_span, end_of_tokens, no_document};
 
 use ob_text::{Code, Cursor, Diagnostic, Held, NoMemory, Position, Range, Span};
 use oberon_parse::{ParseRefusal, parse};

@@ -1,13 +1,13 @@
 //! The modules that a module imports (The Programming Language Oberon-07, section 11). It stands on `oberon_tree`,
 //! and on `oberon_scan` for tokens, and may know trees and their tokens, and nothing of texts nor of the server. Begin
-//! reading at `specs/Imports.antt`. That the imports are a function of the tokens is `proofs/OneList.antt`.
+//! reading at `imports_of`, whose contract is by `Imports.antt` of `document_rules`.
 #![tactic(auto)]
 
 ghost use Rattle.std.specs.Prelude.{◌≡◌, ◌==◌, IfOk, OnOk};
 ghost use Rattle.std.specs.Cmp.Lexicographic.{pointwise};
 ghost use Rattle.ob_text.specs.Once.{once_more};
 ghost use Rattle.oberon_tree.specs.Memory.{tree_of};
-ghost use Rattle.oberon_imports.specs.Imports.{imported_name, imports_in};
+ghost use Rattle.document_rules.specs.Imports.{imported_name, imports_in};
 
 use indexmap::IndexSet;
 use ob_text::{Name, NoMemory};

@@ -4,8 +4,8 @@ use Rattle.std.proofs.Common.{inl, inr, ap, sym, subst, ◌∙◌}
 use Rattle.ob_text.specs.declared.diagnostic.Diagnostic.{Diagnostic}
 use Rattle.ob_text.specs.declared.held.Held.{Held}
 use Rattle.ob_text.specs.declared.held.Held.TheVariants.{Text}
-use Rattle.oberon_check.specs.Diagnosed.{bad_token, bad_span}
-use Rattle.oberon_parse.specs.Sentence.{IsFirstBad, most_levels}
+use Rattle.document_rules.specs.Diagnosed.{bad_token, bad_span}
+use Rattle.document_rules.specs.Sentence.{IsFirstBad, most_levels}
 use Rattle.oberon_scan.specs.Lexis.{Lex}
 use Rattle.oberon_scan.specs.declared.token.Token.{Token}
 use Rattle.oberon_tree.specs.Trees.{ModuleTree}

@@ -2,7 +2,7 @@
 use Rattle.std.specs.Prelude.{◌≡◌, ℕ, Bool, false, List}
 use Rattle.ob_text.specs.Code.{severity_of}
 use Rattle.ob_text.specs.declared.diagnostic.Diagnostic.{Diagnostic}
-use Rattle.oberon_imports.specs.Imports.{imports_in}
+use Rattle.document_rules.specs.Imports.{imports_in}
 use Rattle.oberon_rules.specs.Judged.{found, all_said, is_error, declared_view}
 use Rattle.oberon_rules.specs.Order.{IsListed}
 use Rattle.oberon_rules.specs.Scopes.{Said, broken, resolved}

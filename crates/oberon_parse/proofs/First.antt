@@ -15,7 +15,7 @@ use Rattle.oberon_productions.specs.Expected.{Expected}
 use Rattle.oberon_productions.specs.Expected as want
 use Rattle.oberon_productions.specs.Tests.{is_word, is_symbol, is_ident, is_literal, is_sign, is_constant}
 use Rattle.oberon_productions.specs.Machine.{Move, takes, passes, refuses, needs, deeper, begins_factor, begins_expr, move, may_miss, feed, may_end, stops, module_parts, expr_parts, exprs_parts, section_tail}
-use Rattle.oberon_parse.specs.Sentence.{IsSentence, IsFront, IsFirstBad, most_levels}
+use Rattle.document_rules.specs.Sentence.{IsSentence, IsFront, IsFirstBad, most_levels}
 use Rattle.oberon_productions.proofs.Found.{no}
 use Rattle.oberon_productions.proofs.Parts.{Shape, spell, deep, limit, Part, Parts, parts_split, parts_join}
 use Rattle.oberon_productions.proofs.Back.{part_taken}

@@ -3,7 +3,7 @@ ghost use Rattle.oberon_tree.specs.Print.{tokens_of};
 ghost use Rattle.oberon_tree.specs.Levels.{depth_of_module};
 ghost use Rattle.oberon_tree.specs.Memory.{module_tree, tree_of};
 ghost use Rattle.oberon_productions.specs.Machine.{module_parts, stops};
-ghost use Rattle.oberon_parse.specs.Sentence.{IsFirstBad, most_levels};
+ghost use Rattle.document_rules.specs.Sentence.{IsFirstBad, most_levels};
 
 use crate::top::any_module;
 use oberon_productions::Stop;

@@ -5,9 +5,9 @@ use Rattle.ob_text.specs.declared.code.Code.TheVariants as codes_of
 use Rattle.ob_text.specs.declared.diagnostic.Diagnostic.{Diagnostic}
 use Rattle.ob_text.specs.declared.held.Held.{Held}
 use Rattle.ob_text.specs.declared.held.Held.TheVariants.{Text, Absent, TooLarge, NotText}
-use Rattle.oberon_check.specs.Diagnosed.{no_document, HasBadToken}
-use Rattle.oberon_imports.specs.Imports.{imports_in}
-use Rattle.oberon_parse.specs.Sentence.{most_levels}
+use Rattle.document_rules.specs.Diagnosed.{no_document, HasBadToken}
+use Rattle.document_rules.specs.Imports.{imports_in}
+use Rattle.document_rules.specs.Sentence.{most_levels}
 use Rattle.oberon_scan.specs.Lexis.{Lex}
 use Rattle.oberon_scan.specs.declared.token.Token.{Token}
 use Rattle.oberon_tree.specs.Levels.{depth_of_module}

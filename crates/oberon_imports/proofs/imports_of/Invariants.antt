@@ -2,7 +2,7 @@ use Rattle.std.proofs.Common.{◌≡◌, ◌==◌, take, map, fold}
 use Rattle.std.specs.Cmp.Lexicographic.{pointwise}
 use Rattle.oberon_tree.specs.declared.module.NextImport.{NextImport}
 use Rattle.ob_text.specs.Once.{once_more}
-use Rattle.oberon_imports.specs.Imports.{imported_name}
+use Rattle.document_rules.specs.Imports.{imported_name}
 use Rattle.oberon_imports.proofs.imports_of.Given as goal
 
 abbrev pub invariant-loop-next : goal.invariant-loop-next

@@ -2,9 +2,9 @@ use Rattle.std.proofs.Common.{◌≡◌, List, IfOk, rules}
 use Rattle.std.specs.List.{All}
 use Rattle.std.proofs.lemmas.Result.{IfOk-weaker}
 use Rattle.ob_text.specs.declared.diagnostic.Diagnostic.{Diagnostic}
-use Rattle.oberon_check.specs.Diagnosed.{Diagnosed, IsNameless, IsAscending}
+use Rattle.document_rules.specs.Diagnosed.{Diagnosed, IsNameless, IsAscending}
 use Rattle.oberon_check.proofs.Laws.{all_nameless, all_in_order}
-use Rattle.oberon_check.proofs.Only.{one_list}
+use Rattle.document_rules.proofs.OneDiagnosis.{one_list}
 use Rattle.oberon_check.proofs.document.diagnose.Goals as goal
 
 pub returns-in-Text-clause-only : goal.returns-in-Text-clause-only

@@ -1,7 +1,7 @@
 use Rattle.std.proofs.Common.{◌≡◌, ◌∷◌, [], inl, inr}
 use Rattle.std.proofs.lemmas.Result.{IfOk-weaker}
 use Rattle.oberon_tree.specs.Memory.{tree_of}
-use Rattle.oberon_check.specs.Diagnosed.{TokensDiagnosed, bad_token, bad_span}
+use Rattle.document_rules.specs.Diagnosed.{TokensDiagnosed, bad_token, bad_span}
 use Rattle.oberon_check.proofs.document.diagnose_tokens.Goals.{in-Ok, in-Err-FirstBad, in-Err-NoMemory}
 use Rattle.oberon_check.proofs.document.diagnose_tokens.Goals as goal
 

@@ -1,7 +1,7 @@
 use Rattle.std.proofs.Common.{◌≡◌, ◌∷◌, [], ◌∙◌, ap, sym, subst}
 use Rattle.std.proofs.lemmas.Result.{IfOk-weaker}
 use Rattle.ob_text.specs.Position.{IsPart}
-use Rattle.oberon_check.specs.Diagnosed.{bad_token, bad_span}
+use Rattle.document_rules.specs.Diagnosed.{bad_token, bad_span}
 use Rattle.oberon_check.proofs.Parts.{bad_part}
 use Rattle.oberon_check.proofs.document.list_of_bad_token.Goals as goal
 

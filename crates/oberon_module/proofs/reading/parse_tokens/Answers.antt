@@ -1,5 +1,5 @@
 use Rattle.std.proofs.Common.{◌∷◌, [], ℕ, List, ◌∙◌, ap}
-use Rattle.oberon_check.specs.Diagnosed.{bad_token, bad_span}
+use Rattle.document_rules.specs.Diagnosed.{bad_token, bad_span}
 use Rattle.oberon_module.proofs.ReadingLaws.{bad_read}
 use Rattle.oberon_module.proofs.reading.parse_tokens.Goals as goal
 

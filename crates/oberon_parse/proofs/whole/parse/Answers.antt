@@ -1,6 +1,6 @@
 use Rattle.std.proofs.Common.{sym, arith}
 use Rattle.oberon_productions.specs.Machine.{module_parts}
-use Rattle.oberon_parse.specs.Sentence.{most_levels}
+use Rattle.document_rules.specs.Sentence.{most_levels}
 use Rattle.oberon_parse.proofs.First.{first_bad_at, left_within}
 use Rattle.oberon_parse.proofs.whole.parse.Goals as goal
 

@@ -15,7 +15,7 @@ use Rattle.oberon_tree.specs.declared.module.NextImport.{NextImport}
 use Rattle.oberon_tree.specs.Tokens.{symbol_token, word_token, ident_token}
 use Rattle.oberon_tree.specs.Trees.{ConstantsTree, TypesTree, VariablesTree, ProcedureItemTree, BodyTree, ImportsTree, ModuleTree}
 use Rattle.oberon_tree.specs.Print.{print_some, print_each, print_constants, print_types, print_variables, print_declarations, print_procedure_item, print_body, print_import, print_next_import, print_imports, tokens_of}
-use Rattle.oberon_imports.specs.Imports.{imported_name, names_in, imports_in}
+use Rattle.document_rules.specs.Imports.{imported_name, names_in, imports_in}
 
 -- ---- the names of the tokens
 

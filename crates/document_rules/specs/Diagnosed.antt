@@ -8,7 +8,7 @@ use Rattle.ob_text.specs.declared.diagnostic.Diagnostic.{Diagnostic}
 use Rattle.ob_text.specs.declared.held.Held.{Held}
 use Rattle.ob_text.specs.declared.held.Held.TheVariants.{Text, Absent, TooLarge, NotText}
 use Rattle.ob_text.specs.declared.span.Span.{Span}
-use Rattle.oberon_parse.specs.Sentence.{IsFirstBad, IsSentence, most_levels}
+use Rattle.document_rules.specs.Sentence.{IsFirstBad, IsSentence, most_levels}
 use Rattle.oberon_scan.specs.Lexis.{Lex}
 use Rattle.oberon_scan.specs.declared.token.Token.{Token}
 

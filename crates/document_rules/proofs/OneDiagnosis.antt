@@ -7,8 +7,8 @@ use Rattle.ob_text.specs.declared.held.Held.{Held}
 use Rattle.ob_text.specs.declared.held.Held.TheVariants.{Text, Absent, TooLarge, NotText}
 use Rattle.oberon_scan.specs.declared.token.Token.{Token}
 use Rattle.oberon_scan.proofs.OneCut.{one_cut}
-use Rattle.oberon_parse.specs.Sentence.{IsSentence, IsFront, IsFirstBad, most_levels}
-use Rattle.oberon_check.specs.Diagnosed.{Diagnosed, TextDiagnosed, FaultsDiagnosed, TokensDiagnosed, bad_token, bad_span}
+use Rattle.document_rules.specs.Sentence.{IsSentence, IsFront, IsFirstBad, most_levels}
+use Rattle.document_rules.specs.Diagnosed.{Diagnosed, TextDiagnosed, FaultsDiagnosed, TokensDiagnosed, bad_token, bad_span}
 
 -- of two first bad tokens neither stands before the other
 no_later : (limit : ℕ) (ts : List Token) (j k : ℕ) → IsFirstBad limit ts j → IsFirstBad limit ts k → k ≤ j

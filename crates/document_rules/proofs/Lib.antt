@@ -1,0 +1,2 @@
+pub mod OneDiagnosis
+pub mod OneImportList

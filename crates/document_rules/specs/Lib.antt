@@ -1,0 +1,3 @@
+pub mod Sentence
+pub mod Diagnosed
+pub mod Imports
