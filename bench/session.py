@@ -18,9 +18,12 @@ INITIALIZE = {
 
 
 def need_program():
-    """Ends with a word to the person where the program isn't built."""
+    """Ends with a word to the person where the program isn't built, and says where it is unproved, and so slower."""
     if not os.access(PROGRAM, os.X_OK):
-        sys.exit("there is no bin/oberon-bsp yet (./build makes it)")
+        sys.exit("there is no bin/oberon-bsp yet (./build --proved makes it)")
+    told = pathlib.Path(f"{PROGRAM}.sum")
+    if not told.is_file() or told.read_text().split()[:1] != ["proved"]:
+        print("bin/oberon-bsp is UNPROVED: with checks in the place of proofs it takes longer than what ./build --proved makes")
 
 
 def target(name):
