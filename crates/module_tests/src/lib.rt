@@ -3,7 +3,7 @@
 //!
 //! It stands above `oberon_module`, and for keys above `iface_key`, so that neither is proved once more with its tests, and
 //! may know what they and `oberon_types` make public. There is nothing here to call. Begin with `diagnostics.rt`, and with
-//! `shown.rt` for what modules show.
+//! `rules.rt` for rows that are told with their names, and `shown.rt` for what modules show.
 #![tactic(auto)]
 
 #[cfg(test)]
@@ -14,6 +14,8 @@ mod diagnostics;
 mod importing;
 #[cfg(test)]
 mod keys;
+#[cfg(test)]
+mod rules;
 #[cfg(test)]
 mod shown;
 #[cfg(test)]

@@ -30,19 +30,39 @@ pub fn checked_as(
 pub fn listed(alloc: Global, list: &[Diagnostic]) -> Result<String, AllocError> {
     let mut out = String::new(alloc);
     for diagnostic in list {
-        if out.len() > 0 {
-            out.push_str(" ")?;
-        }
-        let start = diagnostic.range.start;
-        let end = diagnostic.range.end;
-        let code = diagnostic.code.name();
-        write!(
-            out,
-            "{}:{}-{}:{} {code};",
-            start.line, start.character, end.line, end.character
-        )?;
+        put_diagnostic(&mut out, diagnostic)?;
+        out.push_str(";")?;
     }
     Ok(out)
+}
+
+/// The same with the name of each that has one.
+pub fn named(alloc: Global, list: &[Diagnostic]) -> Result<String, AllocError> {
+    let mut out = String::new(alloc);
+    for diagnostic in list {
+        put_diagnostic(&mut out, diagnostic)?;
+        if let Some(name) = &diagnostic.name {
+            out.push_str(" ")?;
+            put_name(&mut out, name)?;
+        }
+        out.push_str(";")?;
+    }
+    Ok(out)
+}
+
+/// A diagnostic behind those before it.
+fn put_diagnostic(out: &mut String, diagnostic: &Diagnostic) -> Result<(), AllocError> {
+    if out.len() > 0 {
+        out.push_str(" ")?;
+    }
+    let start = diagnostic.range.start;
+    let end = diagnostic.range.end;
+    let code = diagnostic.code.name();
+    write!(
+        out,
+        "{}:{}-{}:{} {code}",
+        start.line, start.character, end.line, end.character
+    )
 }
 
 /// Each export as its name and what it stands for.

@@ -1,13 +1,5 @@
 mod RowTrees
 mod RowViews
-mod NameRows
-mod ConstantRows
-mod TypeRows
-mod ProcedureRows
-mod OperatorRows
-mod DesignatorRows
-mod StatementRows
-mod LimitRows
 mod ViewRows
 pub mod OneList
 pub mod Seen
