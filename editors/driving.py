@@ -39,7 +39,7 @@ def started(words, home):
 
 class Emacs:
     name, command, package = "Emacs", "emacs", "emacs-nox"
-    restart, compile = "oberon-bsp-restart", "oberon-bsp-compile"
+    restart, compile, compile_all = "oberon-bsp-restart", "oberon-bsp-compile", "oberon-bsp-compile-all"
 
     def __init__(self, home):
         self.home = home
@@ -51,7 +51,7 @@ class Emacs:
             f"""(add-to-list 'load-path {self.text(FOLDER / "emacs")})
 (require 'oberon-bsp)
 (setq oberon-bsp-program {self.text(program)} oberon-bsp-timeout {timeout})
-(add-hook 'find-file-hook #'oberon-bsp-turn-on)
+(oberon-bsp-global-mode)
 """
         )
         return ["emacs", "-Q", "-l", str(self.home / "init.el")]
@@ -122,15 +122,21 @@ class Emacs:
         """What was said to the person."""
         return self.ask('(with-current-buffer "*Messages*" (buffer-string))').splitlines()
 
+    def state(self, path):
+        return self.ask(self.inside(path, "(oberon-bsp-state)"))
+
     def listed(self, path):
-        """The list of errors, each as its file, line, column and message."""
+        """The list of errors, each as its file, line, column, kind, and message with its code."""
         self.command_in(path, "oberon-bsp-errors")
+        return self.rows()
+
+    def rows(self):
         return self.ask(
             """(with-current-buffer "*oberon-bsp errors*"
                  (vconcat (mapcar (lambda (entry)
                    (let ((row (cadr entry)))
                      (vector (aref row 0) (string-to-number (aref row 1)) (string-to-number (aref row 2))
-                             (aref row 3))))
+                             (aref row 3) (format "%s [%s]" (aref row 5) (aref row 4)))))
                    (funcall tabulated-list-entries))))"""
         )
 
@@ -152,7 +158,7 @@ class Emacs:
 
 class Neovim:
     name, command, package = "Neovim", "nvim", "neovim"
-    restart, compile = "OberonBspRestart", "OberonBspCompile"
+    restart, compile, compile_all = "OberonBspRestart", "OberonBspCompile", "OberonBspCompileAll"
 
     def __init__(self, home):
         self.home = home
@@ -160,8 +166,9 @@ class Neovim:
 
     def words(self, program, timeout):
         (self.home / "init.lua").write_text(
-            f"dofile({self.text(FOLDER / 'nvim' / 'oberon-bsp.lua')})"
-            f".setup {{ program = {self.text(program)}, timeout = {timeout} }}\n"
+            f"""vim.opt.runtimepath:prepend({self.text(FOLDER / 'nvim')})
+require('oberon-bsp').setup {{ program = {self.text(program)}, timeout = {timeout} }}
+"""
         )
         return ["nvim", "-n", "-u", str(self.home / "init.lua")]
 
@@ -241,16 +248,25 @@ class Neovim:
         )
 
     def lines(self):
+        """What was said to the person, as a screen of 80 columns shows it."""
         return self.ask("return vim.fn.execute('messages')").splitlines()
 
+    def state(self, path):
+        return self.ask(f"return require('oberon-bsp').state(vim.fn.bufnr({self.text(path)})) or ''")
+
     def listed(self, path):
+        """The list of errors, each as its file, line, column, kind, message and code."""
         self.command_in(path, "OberonBspErrors")
+        return self.rows()
+
+    def rows(self):
         return self.ask(
             """local rows = {}
             for _, it in ipairs(vim.fn.getqflist()) do
               local name = vim.fn.fnamemodify(vim.fn.bufname(it.bufnr), ":t")
               local line = vim.fn.getbufline(it.bufnr, it.lnum)[1] or ""
-              table.insert(rows, { name, it.lnum, vim.str_utfindex(line, math.min(it.col - 1, #line)) + 1, it.text })
+              table.insert(rows, { name, it.lnum, vim.str_utfindex(line, math.min(it.col - 1, #line)) + 1,
+                it.type == "E" and "error" or "warning", it.text })
             end
             return rows"""
         )
