@@ -88,7 +88,7 @@ COLUMN is that at which the line of the token begins."
 (defun oberon--begun (open)
   "The constructs OPEN behind their BEGIN."
   (if (memq (caar open) '(block module))
-      (cons (cons 'body (cdar open)) (cdr open))
+      (cons (cons 'block (cdar open)) (cdr open))
     open))
 
 (defun oberon--open-at (end)
@@ -98,24 +98,38 @@ COLUMN is that at which the line of the token begins."
     (let ((case-fold-search nil) open)
       (while (re-search-forward oberon--token end t)
         (let ((token (match-string-no-properties 0)))
-          (unless (save-match-data
-                    (save-excursion (nth 8 (syntax-ppss (match-beginning 0)))))
-            (setq open (oberon--behind open token (current-indentation))))))
+          (cond
+           ((nth 8 (save-excursion (syntax-ppss (match-beginning 0)))))
+           ((looking-at-p "\\*") ; behind the front of a comment
+            (unless (equal token "(")
+              (setq open (oberon--behind open token (current-indentation)))))
+           (t
+            (setq open (oberon--behind open token (current-indentation)))))))
       open)))
 
 (defun oberon--inside (open)
-  "The column of the parts of the innermost construct of OPEN."
-  (if open (+ (cdar open) oberon-indent) 0))
+  "The column of the parts of the innermost construct of OPEN.
+What a module declares stands at its own column."
+  (pcase (car open)
+    ('nil 0)
+    (`(module . ,column) column)
+    (`(,_ . ,column) (+ column oberon-indent))))
 
 (defun oberon--column (open)
-  "The column of this line, before which the constructs OPEN are open."
+  "The column of this line, before which the constructs OPEN are open.
+A comment stands as what it is about."
   (let ((case-fold-search nil)
         (outer (oberon--without-section open)))
+    (while (and (looking-at-p "(\\*") (forward-comment 1))
+      (skip-chars-forward " \t")
+      (when (looking-at-p "\n[^\n]")
+        (skip-chars-forward " \t\n")))
     (cond
-     ((looking-at "\\_<\\(END\\|UNTIL\\|BEGIN\\|RETURN\\)\\_>")
+     ((looking-at "\\_<\\(END\\|UNTIL\\|BEGIN\\)\\_>")
       (or (cdar outer) 0))
      ((looking-at "\\_<\\(ELSE\\|ELSIF\\)\\_>\\|[]|)}]") (or (cdar open) 0))
-     ((looking-at "\\_<\\(IMPORT\\|CONST\\|TYPE\\|VAR\\|PROCEDURE\\)\\_>")
+     ((looking-at
+       "\\_<\\(IMPORT\\|CONST\\|TYPE\\|VAR\\|PROCEDURE\\|RETURN\\)\\_>")
       (oberon--inside outer))
      (t (oberon--inside open)))))
 

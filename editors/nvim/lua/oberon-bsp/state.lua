@@ -23,7 +23,7 @@ end
 
 -- What is known of a file once nothing is under way.
 local function settled(session, path)
-  local targets = session.targets[path]
+  local targets = path and session.targets[path]
   if session.failed then
     return string.format('failed (%s)', session.failed)
   elseif targets and #targets == 0 then
