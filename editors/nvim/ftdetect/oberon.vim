@@ -1,0 +1,1 @@
+autocmd BufNewFile,BufRead *.Mod set filetype=oberon

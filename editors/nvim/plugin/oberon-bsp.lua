@@ -1,0 +1,2 @@
+-- Starts the package with what setup{} was given, or with its defaults.
+require('oberon-bsp').start()

@@ -1,0 +1,125 @@
+"""Drives Emacs without a screen: it opens, changes and saves files, and tells what a person would see."""
+import base64
+import json
+import subprocess
+
+from .waiting import EDITORS, PATIENCE, Missed, environment, started
+
+
+class Emacs:
+    name, command, package = "Emacs", "emacs", "emacs-nox"
+    restart, compile, compile_all = "oberon-bsp-restart", "oberon-bsp-compile", "oberon-bsp-compile-all"
+
+    def __init__(self, home):
+        self.home = home
+        self.socket = home / "socket"
+
+    def words(self, program, timeout):
+        """The command line, with an init file as editors/README.md has it."""
+        (self.home / "init.el").write_text(
+            f"""(add-to-list 'load-path {self.text(EDITORS / "emacs")})
+(require 'oberon-bsp)
+(setq oberon-bsp-program {self.text(program)} oberon-bsp-timeout {timeout})
+(oberon-bsp-global-mode)
+"""
+        )
+        return ["emacs", "-Q", "-l", str(self.home / "init.el")]
+
+    def start(self, program, timeout):
+        return started([*self.words(program, timeout), f"--fg-daemon={self.socket}"], self.home)
+
+    @staticmethod
+    def text(value):
+        return json.dumps(str(value), ensure_ascii=False)
+
+    def ask(self, code):
+        """The value of an expression, which is to be one that JSON has."""
+        code = f"(base64-encode-string (encode-coding-string (json-serialize {code} :false-object :false) 'utf-8) t)"
+        words = ["emacsclient", "-s", str(self.socket), "--eval", code]
+        ran = subprocess.run(words, env=environment(self.home), capture_output=True, text=True, timeout=PATIENCE)
+        if ran.returncode != 0:
+            raise Missed(f"{code} failed: {ran.stdout}{ran.stderr}")
+        return json.loads(base64.b64decode(ran.stdout.strip().strip('"')))
+
+    def shown_words(self, path):
+        """The words that open a file at its first error."""
+        go = "(run-with-timer 8 nil (lambda () (goto-char (point-min)) (call-interactively #'flymake-goto-next-error)))"
+        return ["-nw", "--eval", "(menu-bar-mode 0)", "--eval", go, str(path)]
+
+    def is_ready(self):
+        """Whether it answers, and has read its init file."""
+        return self.socket.exists() and self.ask("(if (featurep 'oberon-bsp) t :false)")
+
+    def do(self, code):
+        return self.ask(f"(progn {code} t)")
+
+    def inside(self, path, code):
+        return f"(with-current-buffer (find-buffer-visiting {self.text(path)}) {code})"
+
+    def open(self, path):
+        self.do(f"(switch-to-buffer (find-file-noselect {self.text(path)}))")
+
+    def replace(self, path, old, new):
+        code = f"(goto-char (point-min)) (search-forward {self.text(old)}) (replace-match {self.text(new)} t t)"
+        self.do(self.inside(path, code))
+
+    def save(self, path):
+        self.do(self.inside(path, "(save-buffer)"))
+
+    def close(self, path):
+        self.do(self.inside(path, "(set-buffer-modified-p nil) (kill-buffer)"))
+
+    def read_again(self, path):
+        self.do(self.inside(path, "(revert-buffer t t)"))
+
+    def command_in(self, path, command):
+        self.do(self.inside(path, f"({command})"))
+
+    def marks(self, path):
+        """Each mark as the text before it in its line, the marked text, and the message."""
+        found = """(vconcat (mapcar (lambda (it)
+          (save-excursion
+            (goto-char (overlay-start it))
+            (vector (buffer-substring-no-properties (line-beginning-position) (point))
+                    (buffer-substring-no-properties (point) (overlay-end it))
+                    (flymake-diagnostic-text (overlay-get it 'flymake-diagnostic)))))
+          (sort (seq-filter (lambda (it) (overlay-get it 'flymake-diagnostic)) (overlays-in 1 (1+ (buffer-size))))
+                (lambda (one other) (< (overlay-start one) (overlay-start other))))))"""
+        return self.ask(self.inside(path, found))
+
+    def lines(self):
+        """What was said to the person."""
+        return self.ask('(with-current-buffer "*Messages*" (buffer-string))').splitlines()
+
+    def state(self, path):
+        return self.ask(self.inside(path, "(oberon-bsp-state)"))
+
+    def listed(self, path):
+        """The list of errors, each as its file, line, column, kind, and message with its code."""
+        self.command_in(path, "oberon-bsp-errors")
+        return self.rows()
+
+    def rows(self):
+        return self.ask(
+            """(with-current-buffer "*oberon-bsp errors*"
+                 (vconcat (mapcar (lambda (entry)
+                   (let ((row (cadr entry)))
+                     (vector (aref row 0) (string-to-number (aref row 1)) (string-to-number (aref row 2))
+                             (aref row 3) (format "%s [%s]" (aref row 5) (aref row 4)))))
+                   (funcall tabulated-list-entries))))"""
+        )
+
+    def visit_first(self):
+        """Goes to the first error of the list, and gives the file's name and the text from there to the line's end."""
+        return self.ask(
+            """(with-current-buffer "*oberon-bsp errors*"
+                 (goto-char (point-min)) (oberon-bsp-visit)
+                 (vector (file-name-nondirectory buffer-file-name)
+                         (buffer-substring-no-properties (point) (line-end-position))))"""
+        )
+
+    def quit(self):
+        subprocess.run(
+            ["emacsclient", "-s", str(self.socket), "--eval", "(kill-emacs)"],
+            env=environment(self.home), capture_output=True, timeout=PATIENCE,
+        )

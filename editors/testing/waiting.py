@@ -1,0 +1,36 @@
+"""Waiting for what a person would see."""
+import os
+import pathlib
+import subprocess
+import time
+
+ROOT = pathlib.Path(__file__).resolve().parent.parent.parent
+EDITORS = ROOT / "editors"
+
+# Seconds after which something is missed.
+PATIENCE = 60
+
+
+class Missed(Exception):
+    """Something wasn't seen in time, or isn't as it should be."""
+
+
+def wait_until(what, see):
+    """Waits until `see` gives something true, and returns that."""
+    end = time.monotonic() + PATIENCE
+    while not (seen := see()):
+        if time.monotonic() > end:
+            raise Missed(what() if callable(what) else what)
+        time.sleep(0.05)
+    return seen
+
+
+def environment(home):
+    """What an editor runs in, with a home of its own."""
+    own = {"HOME": str(home), "XDG_RUNTIME_DIR": str(home), "LC_ALL": "C.UTF-8", "TERM": "xterm-256color"}
+    return {**os.environ, **own}
+
+
+def started(words, home):
+    silent = {"stdin": subprocess.DEVNULL, "stdout": subprocess.DEVNULL, "stderr": subprocess.DEVNULL}
+    return subprocess.Popen(words, env=environment(home), **silent)
