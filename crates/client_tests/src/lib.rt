@@ -1,0 +1,8 @@
+//! Tests of the public calls of the client's crates: what its table shows.
+//!
+//! They stand above those crates, so that none is proved once more with its tests, and may know what these make public.
+//! There is nothing here to call. Begin with `tables.rt`.
+#![tactic(auto)]
+
+#[cfg(test)]
+mod tables;
