@@ -1,0 +1,7 @@
+mod Paid
+mod Parts
+mod Words
+mod Expressions
+mod Statements
+mod Runs
+mod Turns

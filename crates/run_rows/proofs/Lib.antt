@@ -1,0 +1,10 @@
+mod NumbersRows
+mod BytesRows
+mod SetsRows
+mod ArraysRows
+mod RecordsRows
+mod LoopsRows
+mod ChoicesRows
+mod CallsRows
+mod ModulesRows
+mod ReportsRows

@@ -1,0 +1,13 @@
+pub mod Parts
+pub mod Spelled
+pub mod Coming
+pub mod Numbers
+pub mod Bytes
+pub mod Sets
+pub mod Arrays
+pub mod Records
+pub mod Loops
+pub mod Choices
+pub mod Calls
+pub mod Modules
+pub mod Reports
