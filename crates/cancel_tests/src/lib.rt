@@ -8,6 +8,4 @@
 #[cfg(test)]
 mod cancels;
 #[cfg(test)]
-mod many;
-#[cfg(test)]
 mod turns;

@@ -9,16 +9,12 @@ mod crews;
 mod files;
 mod row;
 mod runs;
-mod steps;
 
 pub use bsp_cli::{Ended, Status, read_words, run_words};
 pub use crews::{CountingCrew, KeenCrew};
 pub use files::{A, APP, APP_ALONE, Files, ODD_Z, WORKSPACE, WORKSPACE_ALONE, WORKSPACE_FILE};
-pub use row::{
-    Behind, ROW, Row, expect_behind, expect_by, expect_longer, expect_row, expect_rows, expect_told,
-};
+pub use row::{ROW, Row, expect_by, expect_longer, expect_row, expect_rows};
 pub use runs::{
-    Fails, Left, NOTHING_FAILS, changing_tree, expect_answers, expect_left, expect_shown,
-    expect_whole, file, run, run_by, session_of, tree,
+    Fails, Left, NOTHING_FAILS, expect_answers, expect_left, expect_whole, file, run, session_of,
+    tree,
 };
-pub use steps::{Case, OF_APP, Step, expect_case};

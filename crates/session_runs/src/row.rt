@@ -69,7 +69,7 @@ pub fn expect_by<C: Crew>(alloc: Global, row: &Row, crew: &mut C) -> Result<(), 
 
 /// Runs a session over the files of a row, whose reads and writes fail as there, and looks for this output, and for the row's
 /// note and status. All that is sent must be taken.
-pub fn expect_told<C: Crew>(
+fn expect_told<C: Crew>(
     alloc: Global,
     row: &Row,
     session: Sent,
@@ -109,15 +109,4 @@ pub fn expect_longer(alloc: Global, row: &Row, sent: &str, told: &str) -> Result
     add_told(alloc, told, row.origin, &mut output)?;
     let mut crew = InlineCrew::new(alloc);
     expect_told(alloc, row, session, output.as_slice(), &mut crew)
-}
-
-/// What a front meets, what is sent behind it, and what that writes.
-pub type Behind = (Row<'static>, &'static str, &'static str);
-
-/// Runs each session, and looks at all that it is answered.
-pub fn expect_behind(alloc: Global, rows: &[Behind]) -> Result<(), Fail> {
-    for (row, sent, told) in rows {
-        expect_longer(alloc, row, sent, told)?;
-    }
-    Ok(())
 }

@@ -85,7 +85,7 @@ pub fn tree(
 }
 
 /// The same, and the third list is taken out before the call of that number.
-pub fn changing_tree(
+pub(crate) fn changing_tree(
     alloc: Global,
     files: Files,
     changes: &[(u64, &[u8], &[u8])],
@@ -124,7 +124,7 @@ fn serve<S: Source, T: Tree, K: Sink, C: Crew>(
 }
 
 /// Runs `serve` over what is sent, by a crew that was given no job.
-pub fn run_by<C: Crew>(
+pub(crate) fn run_by<C: Crew>(
     alloc: Global,
     sent: Sent,
     fails: Fails,
@@ -214,7 +214,7 @@ fn without_tasks(alloc: Global, output: &[u8]) -> Result<String, Fail> {
 }
 
 /// Runs a session as `expect_whole` does, and looks at its output but for what tells of tasks.
-pub fn expect_shown(
+fn expect_shown(
     alloc: Global,
     tree: &mut MemTree,
     session: Sent,
