@@ -5,3 +5,4 @@ mod Expressions
 mod Statements
 mod Runs
 mod Turns
+mod Apart
