@@ -7,8 +7,8 @@ import time
 ROOT = pathlib.Path(__file__).resolve().parent.parent.parent
 EDITORS = ROOT / "editors"
 
-# Seconds after which something is missed.
-PATIENCE = 60
+# Seconds after which something is missed; a machine with much to do takes its time.
+PATIENCE = int(os.environ.get("EDITORS_PATIENCE", "60"))
 
 
 class Missed(Exception):
