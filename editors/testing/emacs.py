@@ -131,6 +131,10 @@ class Emacs:
         self.command_in(path, "oberon-bsp-errors")
         return self.rows()
 
+    def list_in_window(self, path):
+        """Opens the list of errors as a person does, with its window."""
+        self.listed(path)
+
     def rows(self):
         return self.ask(
             """(with-current-buffer "*oberon-bsp errors*"

@@ -1,9 +1,9 @@
 """Faults that a person would notice, each as a change of a package, with the test that has to see it."""
 import collections
 
-Fault = collections.namedtuple("Fault", "what editor file old new test")
+Fault = collections.namedtuple("Fault", "what editor edits test")
 
-# What is planted, then for each editor the file and the two texts, then the test.
+# What is planted, the test, and for each editor a file and two texts, or several such.
 TABLE = (
     (
         "errors and warnings are swapped in the text", "errors_and_warnings",
@@ -28,7 +28,8 @@ TABLE = (
     ),
     (
         "a file that is saved into another workspace keeps its session", "saved_elsewhere",
-        ("nvim", "lua/oberon-bsp/buffers.lua", "  if not member or member.session.root ~= root then", "  if not member then"),
+        ("nvim", "lua/oberon-bsp/buffers.lua", "  if not member or member.session.root ~= root then", "  if not member then",
+         "lua/oberon-bsp/init.lua", "{ 'BufUnload', 'BufFilePost' }", "{ 'BufUnload' }"),
         ("emacs", "oberon-bsp.el", "   ((oberon-bsp--is-elsewhere)\n", "   ((not oberon-bsp--session)\n"),
     ),
     (
@@ -57,7 +58,8 @@ TABLE = (
     ),
     (
         "servers aren't ended when the editor is quit", "shutdown_on_quit",
-        ("nvim", "lua/oberon-bsp/init.lua", "  on('VimLeavePre', require('oberon-bsp.lifecycle').leave_all)\n", ""),
+        ("nvim", "lua/oberon-bsp/init.lua", "  on('VimLeavePre', require('oberon-bsp.lifecycle').leave_all)\n", "",
+         "lua/oberon-bsp/init.lua", "{ 'BufUnload', 'BufFilePost' }", "{ 'BufFilePost' }"),
         ("emacs", "oberon-bsp-server.el", "(add-hook 'kill-emacs-hook #'oberon-bsp--leave-all)", ""),
     ),
     (
@@ -80,12 +82,12 @@ TABLE = (
     (
         "an editor whose terminal is closed goes on", "ended_by_hangup",
         ("nvim", "lua/oberon-bsp/lifecycle.lua", "  sessions.is_leaving = true\n", ""),
-        ("emacs", "oberon-bsp-server.el", "(time-less-p nil end)", "t"),
+        ("emacs", "oberon-bsp-server.el", "(< 0 (cl-decf rounds))", "(accept-process-output nil 0.05 nil)"),
     ),
     (
         "an editor that is terminated goes on", "ended_by_termination",
         ("nvim", "lua/oberon-bsp/lifecycle.lua", "  sessions.is_leaving = true\n", ""),
-        ("emacs", "oberon-bsp-server.el", "(time-less-p nil end)", "t"),
+        ("emacs", "oberon-bsp-server.el", "(< 0 (cl-decf rounds))", "(accept-process-output nil 0.05 nil)"),
     ),
     (
         "a message is longer than the line", "eighty_columns",
@@ -133,4 +135,11 @@ TABLE = (
     ),
 )
 
-FAULTS = tuple(Fault(what, *edit, test) for what, test, *edits in TABLE for edit in edits)
+
+
+def edits_of(words):
+    """The edits of a row, three words each."""
+    return tuple(words[at : at + 3] for at in range(0, len(words), 3))
+
+
+FAULTS = tuple(Fault(what, row[0], edits_of(row[1:]), test) for what, test, *rows in TABLE for row in rows)

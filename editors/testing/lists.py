@@ -146,6 +146,7 @@ def late_publications(stage):
     time.sleep(3)
     editor.command_in(module, editor.compile)
     wait_until("the module isn't compiled again", lambda: len(stage.received("buildTarget/compile")) == 3)
+    stage.sees_state(module, "1 error")
     stage.sees_marks(module, STAND_IN_MARK)
     expect(len(editor.listed(module)), 1, "errors in the list")
 

@@ -140,6 +140,11 @@ require('oberon-bsp').setup {{ program = {self.text(program)}, timeout = {timeou
         self.command_in(path, "OberonBspErrors")
         return self.rows()
 
+    def list_in_window(self, path):
+        """Opens the list of errors as a person does, with its window."""
+        self.open(path)
+        self.do("vim.cmd('OberonBspErrors')")
+
     def rows(self):
         return self.ask(
             """local rows = {}

@@ -132,7 +132,7 @@ def ended_in_terminal(stage, end):
     module.write_text(module.read_text().replace(GREETING, "$"))
     editor.open(module)
     stage.sees_state(module, "1 error")
-    editor.listed(module)
+    editor.list_in_window(module)
     end(terminal)
     stage.has_ended()
 
