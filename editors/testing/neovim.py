@@ -152,7 +152,7 @@ require('oberon-bsp').setup {{ program = {self.text(program)}, timeout = {timeou
               local name = vim.fn.fnamemodify(vim.fn.bufname(it.bufnr), ":t")
               local line = vim.fn.getbufline(it.bufnr, it.lnum)[1] or ""
               table.insert(rows, { name, it.lnum, vim.str_utfindex(line, math.min(it.col - 1, #line)) + 1,
-                it.type == "E" and "error" or "warning", it.text })
+                it.type:upper() == "E" and "error" or "warning", it.text })
             end
             return rows"""
         )

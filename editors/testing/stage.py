@@ -37,6 +37,9 @@ class Stage:
         self.editor = kind(folder / "home")
         self.process = None
 
+    def environment(self):
+        return environment(self.folder / "home")
+
     def start(self, program=None, timeout=PATIENCE):
         self.process = self.editor.start(program or self.program, timeout)
         wait_until("the editor doesn't start", self.editor.is_ready)
@@ -45,7 +48,7 @@ class Stage:
     def start_in_terminal(self):
         """Starts the editor in a terminal, which is returned."""
         words = self.editor.words_in_terminal(self.program)
-        terminal = Terminal(words, environment(self.folder / "home"))
+        terminal = Terminal(words, self.environment())
         self.process = terminal.process
         wait_until("the editor doesn't start", self.editor.is_ready)
         return terminal
@@ -106,9 +109,10 @@ class Stage:
         wait_until(lambda: f"still running: {processes_over(self.folder)}", lambda: not self.servers())
 
     def end(self):
-        """Quits the editor, and sees that nothing is left running."""
-        self.editor.quit()
-        self.has_ended()
+        """Quits the editor, where it was started, and sees that nothing is left running."""
+        if self.process:
+            self.editor.quit()
+            self.has_ended()
 
     def has_ended(self):
         try:
