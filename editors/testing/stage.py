@@ -9,7 +9,7 @@ import subprocess
 import sys
 
 from .terminal import Terminal
-from .waiting import EDITORS, PATIENCE, Missed, environment, wait_until
+from .waiting import EDITORS, PATIENCE, START_PATIENCE, Missed, environment, wait_until
 
 WORKSPACE = EDITORS / "workspace"
 STAND_IN = EDITORS / "stand_in"
@@ -42,7 +42,7 @@ class Stage:
 
     def start(self, program=None, timeout=PATIENCE):
         self.process = self.editor.start(program or self.program, timeout)
-        wait_until("the editor doesn't start", self.editor.is_ready)
+        wait_until("the editor doesn't start", self.editor.is_ready, START_PATIENCE)
         return self.editor
 
     def start_in_terminal(self):
@@ -50,7 +50,7 @@ class Stage:
         words = self.editor.words_in_terminal(self.program)
         terminal = Terminal(words, self.environment())
         self.process = terminal.process
-        wait_until("the editor doesn't start", self.editor.is_ready)
+        wait_until("the editor doesn't start", self.editor.is_ready, START_PATIENCE)
         return terminal
 
     def start_with(self, mode, timeout=PATIENCE):
