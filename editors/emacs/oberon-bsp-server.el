@@ -40,6 +40,13 @@ Where this file is in a clone in which the program was built, that is it."
 (defvar oberon-bsp--started 0
   "How many servers were started.")
 
+;; What this was called before made a warning from some version on.
+(defconst oberon-bsp--no-events
+  (if (slot-exists-p 'jsonrpc-connection '-events-buffer-config)
+      '(:events-buffer-config (:size 0 :format full))
+    '(:events-buffer-scrollback-size 0))
+  "The words by which jsonrpc keeps no list of messages.")
+
 (defun oberon-bsp--connect (session)
   "Start a program that serves the workspace of SESSION.
 Return the connection to it."
@@ -57,16 +64,17 @@ Return the connection to it."
              ;; jsonrpc looks for a buffer of this name.
              :stderr (get-buffer-create (format "*%s stderr*" name)))))
          (connection
-          (make-instance
+          (apply
+           #'make-instance
            'oberon-bsp--connection
            :name name
            :process process
-           :events-buffer-scrollback-size 0
            :notification-dispatcher
            (lambda (connection method params)
              (oberon-bsp--notified session connection method params))
            :on-shutdown
-           (lambda (connection) (oberon-bsp--ended session connection)))))
+           (lambda (connection) (oberon-bsp--ended session connection))
+           oberon-bsp--no-events)))
     (add-function :around (process-filter (jsonrpc--process connection))
                   #'oberon-bsp--filter)
     connection))
@@ -237,14 +245,21 @@ Say how it ended, unless SESSION has left it."
   (oberon-bsp--show session))
 
 (defun oberon-bsp--leave-all ()
-  "End all servers, and wait a moment for it."
-  (let* ((sessions (hash-table-values oberon-bsp--sessions))
-         (connections (mapcar #'oberon-bsp--session-connection sessions))
-         (end (time-add nil 2)))
-    (mapc #'oberon-bsp--stop sessions)
+  "End all servers, and wait a moment for it.
+Nothing is shown any more, and no output is read: an Emacs that ends by a
+signal can do neither."
+  (let ((connections (seq-filter
+                      #'oberon-bsp--is-running
+                      (mapcar #'oberon-bsp--session-connection
+                              (hash-table-values oberon-bsp--sessions))))
+        (rounds 50))
+    (dolist (connection connections)
+      (ignore-errors
+        (jsonrpc-async-request connection :build/shutdown nil :timeout nil)
+        (jsonrpc-notify connection :build/exit nil)))
     (while (and (seq-some #'oberon-bsp--is-running connections)
-                (time-less-p nil end))
-      (accept-process-output nil 0.05))))
+                (< 0 (cl-decf rounds)))
+      (call-process "sleep" nil nil nil "0.02"))))
 
 (add-hook 'kill-emacs-hook #'oberon-bsp--leave-all)
 

@@ -127,7 +127,10 @@ saved.  Where there is no workspace file yet, wait for one."
     (add-hook 'change-major-mode-hook #'oberon-bsp--leave nil t)
     (add-hook 'after-set-visited-file-name-hook #'oberon-bsp--renamed nil t)
     (cond
-     (folder (oberon-bsp--join-session (file-truename folder)))
+     (folder
+      (oberon-bsp--join-session (file-truename folder))
+      (when (oberon-bsp--is-workspace-file)
+        (oberon-bsp--take-in)))
      ((not (oberon-bsp--is-workspace-file))
       (oberon-bsp--say "there is no %s above %s" oberon-bsp--workspace-file
                        (file-name-nondirectory
@@ -191,19 +194,17 @@ It joins one again when it is saved."
 (defun oberon-bsp--saved ()
   "Compile the targets of this buffer's file.
 Where it is the workspace file, let the server read it again.  A file
-that was saved in another workspace changes its session, and a new
-workspace file takes in the buffers that it holds."
+that was saved in another workspace changes its session."
   (cond
    ((oberon-bsp--is-elsewhere)
     (oberon-bsp--leave)
-    (oberon-bsp--join)
-    (when (oberon-bsp--is-workspace-file)
-      (oberon-bsp--take-in)))
+    (oberon-bsp--join))
    ((oberon-bsp--is-workspace-file) (oberon-bsp--reload oberon-bsp--session))
    (t (oberon-bsp--compile-in oberon-bsp--session (oberon-bsp--file)))))
 
 (defun oberon-bsp--take-in ()
-  "Let the buffers that this workspace file holds join its session."
+  "Let the buffers that this workspace file holds join its session.
+They had none, or that of a workspace further up."
   (let ((session oberon-bsp--session))
     (dolist (buffer (buffer-list))
       (with-current-buffer buffer

@@ -1,5 +1,4 @@
 """Drives Emacs without a screen: it opens, changes and saves files, and tells what a person would see."""
-import base64
 import json
 import subprocess
 
@@ -28,18 +27,25 @@ class Emacs:
     def start(self, program, timeout):
         return started([*self.words(program, timeout), f"--fg-daemon={self.socket}"], self.home)
 
+    def words_in_terminal(self, program):
+        start = f'(setq server-socket-dir {self.text(self.home)} server-name "socket")'
+        return [*self.words(program, PATIENCE), "-nw", "--eval", f"(progn (require 'server) {start} (server-start))"]
+
     @staticmethod
     def text(value):
         return json.dumps(str(value), ensure_ascii=False)
 
     def ask(self, code):
         """The value of an expression, which is to be one that JSON has."""
-        code = f"(base64-encode-string (encode-coding-string (json-serialize {code} :false-object :false) 'utf-8) t)"
-        words = ["emacsclient", "-s", str(self.socket), "--eval", code]
+        answer = self.home / "answer"
+        answer.unlink(missing_ok=True)
+        # What is printed is cut where it is long.
+        put = f"(write-region (json-serialize {code} :false-object :false) nil {self.text(answer)} nil 'silent)"
+        words = ["emacsclient", "-s", str(self.socket), "--eval", f"(let ((coding-system-for-write 'utf-8)) {put})"]
         ran = subprocess.run(words, env=environment(self.home), capture_output=True, text=True, timeout=PATIENCE)
-        if ran.returncode != 0:
+        if not answer.exists():
             raise Missed(f"{code} failed: {ran.stdout}{ran.stderr}")
-        return json.loads(base64.b64decode(ran.stdout.strip().strip('"')))
+        return json.loads(answer.read_text())
 
     def shown_words(self, path):
         """The words that open a file at its first error."""
@@ -69,6 +75,24 @@ class Emacs:
     def close(self, path):
         self.do(self.inside(path, "(set-buffer-modified-p nil) (kill-buffer)"))
 
+    def save_as(self, path, new):
+        self.do(self.inside(path, f"(write-file {self.text(new)})"))
+
+    def rename(self, path, new):
+        self.do(self.inside(path, f"(set-visited-file-name {self.text(new)} t)"))
+
+    def join(self, path):
+        self.do(self.inside(path, "(oberon-bsp-mode)"))
+
+    def state_line(self, path):
+        """The line that tells the state, as it is drawn."""
+        return self.ask(self.inside(path, "(format-mode-line mode-line-format nil nil (current-buffer))"))
+
+    def indented(self, path):
+        """The text of a file behind each of its lines was indented."""
+        self.open(path)
+        return self.ask(self.inside(path, "(progn (indent-region (point-min) (point-max)) (buffer-string))"))
+
     def read_again(self, path):
         self.do(self.inside(path, "(revert-buffer t t)"))
 
@@ -87,6 +111,14 @@ class Emacs:
                 (lambda (one other) (< (overlay-start one) (overlay-start other))))))"""
         return self.ask(self.inside(path, found))
 
+    def kinds(self, path):
+        """Whether each mark is an error or a warning."""
+        found = """(vconcat (mapcar (lambda (it)
+            (if (eq :error (flymake-diagnostic-type it)) "error" "warning"))
+          (sort (flymake-diagnostics)
+                (lambda (one other) (< (flymake-diagnostic-beg one) (flymake-diagnostic-beg other))))))"""
+        return self.ask(self.inside(path, found))
+
     def lines(self):
         """What was said to the person."""
         return self.ask('(with-current-buffer "*Messages*" (buffer-string))').splitlines()
@@ -98,6 +130,10 @@ class Emacs:
         """The list of errors, each as its file, line, column, kind, and message with its code."""
         self.command_in(path, "oberon-bsp-errors")
         return self.rows()
+
+    def list_in_window(self, path):
+        """Opens the list of errors as a person does, with its window."""
+        self.listed(path)
 
     def rows(self):
         return self.ask(

@@ -24,20 +24,25 @@ require('oberon-bsp').setup {{ program = {self.text(program)}, timeout = {timeou
     def start(self, program, timeout):
         return started([*self.words(program, timeout), "--headless", "--listen", str(self.socket)], self.home)
 
+    def words_in_terminal(self, program):
+        return [*self.words(program, PATIENCE), "--listen", str(self.socket)]
+
     @staticmethod
     def text(value):
         return json.dumps(str(value), ensure_ascii=False)
 
     def ask(self, code):
         """The value that a piece of Lua returns, which is to be one that JSON has."""
-        expression = "json_encode(luaeval('(function() {} end)()'))".format(code.replace("'", "''"))
+        answer = self.home / "answer"
+        answer.unlink(missing_ok=True)
+        # What is printed is cut where it is long.
+        code_in_text = code.replace("'", "''")
+        expression = f"writefile([json_encode(luaeval('(function() {code_in_text} end)()'))], '{answer}')"
         words = ["nvim", "--server", str(self.socket), "--remote-expr", expression]
         ran = subprocess.run(words, env=environment(self.home), capture_output=True, text=True, timeout=PATIENCE)
-        given = ran.stdout + ran.stderr
-        try:
-            return json.loads(given)
-        except ValueError:
-            raise Missed(f"{code} failed: {given}") from None
+        if not answer.exists():
+            raise Missed(f"{code} failed: {ran.stdout}{ran.stderr}")
+        return json.loads(answer.read_text())
 
     def shown_words(self, path):
         return ["-c", "lua vim.defer_fn(function() vim.diagnostic.goto_next() end, 8000)", str(path)]
@@ -72,6 +77,25 @@ require('oberon-bsp').setup {{ program = {self.text(program)}, timeout = {timeou
     def close(self, path):
         self.do(f"vim.cmd('bwipeout! ' .. vim.fn.bufnr({self.text(path)}))")
 
+    def save_as(self, path, new):
+        self.do(self.inside(path, f"vim.cmd('saveas ' .. vim.fn.fnameescape({self.text(new)}))"))
+
+    def rename(self, path, new):
+        self.do(self.inside(path, f"vim.cmd('file ' .. vim.fn.fnameescape({self.text(new)}))"))
+
+    def join(self, path):
+        self.command_in(path, "OberonBspJoin")
+
+    def state_line(self, path):
+        """The line that tells the state, as it is drawn."""
+        self.open(path)
+        return self.ask("return vim.api.nvim_eval_statusline(vim.o.statusline, {}).str")
+
+    def indented(self, path):
+        """The text of a file behind each of its lines was indented."""
+        self.open(path)
+        return self.ask('vim.cmd("silent normal! gg=G") return vim.fn.join(vim.fn.getline(1, "$"), "\\n") .. "\\n"')
+
     def read_again(self, path):
         self.do(self.inside(path, "vim.cmd('edit!')"))
 
@@ -96,6 +120,14 @@ require('oberon-bsp').setup {{ program = {self.text(program)}, timeout = {timeou
             return marks"""
         )
 
+    def kinds(self, path):
+        """Whether each mark is an error or a warning."""
+        return self.ask(
+            f"""return vim.tbl_map(function(it)
+              return it.severity == vim.diagnostic.severity.ERROR and "error" or "warning"
+            end, vim.diagnostic.get(vim.fn.bufnr({self.text(path)})))"""
+        )
+
     def lines(self):
         """What was said to the person, as a screen of 80 columns shows it."""
         return self.ask("return vim.fn.execute('messages')").splitlines()
@@ -108,6 +140,11 @@ require('oberon-bsp').setup {{ program = {self.text(program)}, timeout = {timeou
         self.command_in(path, "OberonBspErrors")
         return self.rows()
 
+    def list_in_window(self, path):
+        """Opens the list of errors as a person does, with its window."""
+        self.open(path)
+        self.do("vim.cmd('OberonBspErrors')")
+
     def rows(self):
         return self.ask(
             """local rows = {}
@@ -115,7 +152,7 @@ require('oberon-bsp').setup {{ program = {self.text(program)}, timeout = {timeou
               local name = vim.fn.fnamemodify(vim.fn.bufname(it.bufnr), ":t")
               local line = vim.fn.getbufline(it.bufnr, it.lnum)[1] or ""
               table.insert(rows, { name, it.lnum, vim.str_utfindex(line, math.min(it.col - 1, #line)) + 1,
-                it.type == "E" and "error" or "warning", it.text })
+                it.type:upper() == "E" and "error" or "warning", it.text })
             end
             return rows"""
         )

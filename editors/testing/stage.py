@@ -8,7 +8,8 @@ import signal
 import subprocess
 import sys
 
-from .waiting import EDITORS, PATIENCE, Missed, wait_until
+from .terminal import Terminal
+from .waiting import EDITORS, PATIENCE, START_PATIENCE, Missed, environment, wait_until
 
 WORKSPACE = EDITORS / "workspace"
 STAND_IN = EDITORS / "stand_in"
@@ -36,10 +37,21 @@ class Stage:
         self.editor = kind(folder / "home")
         self.process = None
 
+    def environment(self):
+        return environment(self.folder / "home")
+
     def start(self, program=None, timeout=PATIENCE):
         self.process = self.editor.start(program or self.program, timeout)
-        wait_until("the editor doesn't start", self.editor.is_ready)
+        wait_until("the editor doesn't start", self.editor.is_ready, START_PATIENCE)
         return self.editor
+
+    def start_in_terminal(self):
+        """Starts the editor in a terminal, which is returned."""
+        words = self.editor.words_in_terminal(self.program)
+        terminal = Terminal(words, self.environment())
+        self.process = terminal.process
+        wait_until("the editor doesn't start", self.editor.is_ready, START_PATIENCE)
+        return terminal
 
     def start_with(self, mode, timeout=PATIENCE):
         """Starts the editor with a stand-in for the server."""
@@ -67,6 +79,16 @@ class Stage:
         wait_until(lambda: f"the marks are {seen()}, and not {expected}; said was {self.editor.lines()}",
                    lambda: seen() == expected)
 
+    def sees_state(self, path, expected):
+        seen = lambda: self.editor.state(path)
+        wait_until(lambda: f"the state is '{seen()}', and not '{expected}'; said was {self.editor.lines()}",
+                   lambda: seen() == expected)
+
+    def sees_rows(self, expected):
+        """Waits until the list of errors, which was asked for before, has these rows."""
+        seen = lambda: self.editor.rows()
+        wait_until(lambda: f"the list is {seen()}, and not {expected}", lambda: seen() == expected)
+
     def hears(self, *parts):
         """Waits for a line to the person that has one of these parts."""
         own = lambda: [line for line in self.editor.lines() if line.startswith("oberon-bsp: ")]
@@ -87,8 +109,12 @@ class Stage:
         wait_until(lambda: f"still running: {processes_over(self.folder)}", lambda: not self.servers())
 
     def end(self):
-        """Quits the editor, and sees that nothing is left running."""
-        self.editor.quit()
+        """Quits the editor, where it was started, and sees that nothing is left running."""
+        if self.process:
+            self.editor.quit()
+            self.has_ended()
+
+    def has_ended(self):
         try:
             self.process.wait(PATIENCE)
         except subprocess.TimeoutExpired:

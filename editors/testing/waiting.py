@@ -7,17 +7,21 @@ import time
 ROOT = pathlib.Path(__file__).resolve().parent.parent.parent
 EDITORS = ROOT / "editors"
 
-# Seconds after which something is missed.
-PATIENCE = 60
+# Seconds after which something is missed; a machine with much to do takes its time.
+PATIENCE = int(os.environ.get("EDITORS_PATIENCE", "60"))
 
 
 class Missed(Exception):
     """Something wasn't seen in time, or isn't as it should be."""
 
 
-def wait_until(what, see):
+# Seconds after which an editor counts as not started.
+START_PATIENCE = 120
+
+
+def wait_until(what, see, patience=PATIENCE):
     """Waits until `see` gives something true, and returns that."""
-    end = time.monotonic() + PATIENCE
+    end = time.monotonic() + patience
     while not (seen := see()):
         if time.monotonic() > end:
             raise Missed(what() if callable(what) else what)

@@ -7,13 +7,6 @@ local sessions = require('oberon-bsp.sessions')
 
 local M = {}
 
--- Whether a buffer is of a module or a workspace file: by its name, by its filetype, or since a command joined it.
-function M.is_ours(buffer)
-  local name = vim.api.nvim_buf_get_name(buffer)
-  return name ~= '' and vim.bo[buffer].buftype == ''
-    and (sessions.wanted[buffer] or name:match('%.Mod$') ~= nil or sessions.is_workspace_file(name))
-end
-
 -- Does what a saved or opened file asks for, in the state that the session is in.
 function M.compile(session, path)
   if session.state == 'refused' then
@@ -68,7 +61,7 @@ end
 
 function M.read(buffer)
   M.leave(buffer)
-  if M.is_ours(buffer) then
+  if sessions.is_ours(buffer) then
     M.join(buffer)
   end
 end
@@ -76,7 +69,7 @@ end
 -- A new workspace file holds buffers that had none, or one further up.
 local function take_in(root)
   for _, buffer in ipairs(vim.api.nvim_list_bufs()) do
-    if vim.api.nvim_buf_is_loaded(buffer) and M.is_ours(buffer) then
+    if vim.api.nvim_buf_is_loaded(buffer) and sessions.is_ours(buffer) then
       local member = sessions.members[buffer]
       local folder = sessions.folder_of(vim.api.nvim_buf_get_name(buffer))
       if folder and vim.loop.fs_realpath(folder) == root and not (member and member.session.root == root) then
@@ -89,7 +82,7 @@ end
 
 -- A file that was saved elsewhere than it was changes its session.
 function M.saved(buffer)
-  if not M.is_ours(buffer) then
+  if not sessions.is_ours(buffer) then
     return
   end
   local name = vim.api.nvim_buf_get_name(buffer)

@@ -1,9 +1,10 @@
 -- :checkhealth oberon-bsp
 local M = {}
 
--- Up to 0.9 these have longer names.
+-- Up to 0.9 these have longer names, and up to 0.7 they are elsewhere.
 local function teller(name)
-  return vim.health[name] or vim.health['report_' .. name]
+  local health = vim.health or require('health')
+  return health[name] or health['report_' .. name]
 end
 
 function M.check()

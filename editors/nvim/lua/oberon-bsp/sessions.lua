@@ -30,6 +30,13 @@ function M.is_workspace_file(path)
   return M.name_of(path) == M.WORKSPACE_FILE
 end
 
+-- Whether a buffer is of a module or a workspace file, by its name or since a command joined it.
+function M.is_ours(buffer)
+  local name = vim.api.nvim_buf_get_name(buffer)
+  return name ~= '' and vim.bo[buffer].buftype == ''
+    and (M.wanted[buffer] or name:match('%.Mod$') ~= nil or M.is_workspace_file(name))
+end
+
 function M.buffers_of(session)
   local buffers = {}
   for buffer, member in pairs(M.members) do

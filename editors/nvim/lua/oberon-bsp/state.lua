@@ -50,7 +50,7 @@ function M.of_buffer(buffer)
   local member = sessions.members[buffer]
   if member then
     return M.of(member.session, member.path)
-  elseif vim.bo[buffer].filetype == 'oberon' then
+  elseif sessions.is_ours(buffer) then
     return 'off'
   end
 end

@@ -1,0 +1,62 @@
+"""What Emacs alone has: its package, its own lists of errors, and other backends of Flymake."""
+import subprocess
+import tempfile
+
+from .common import GREETING, expect
+from .lists import library_and_user, rename_export
+from .waiting import EDITORS
+
+
+def package_installs(stage):
+    """the folder installs as a package, whose modes are there then"""
+    with tempfile.TemporaryDirectory() as place:
+        code = f"""(progn (require 'package) (setq package-user-dir "{place}") (package-initialize)
+            (package-install-file "{EDITORS}/emacs/")
+            (require 'oberon-bsp)
+            (princ (list (package-installed-p 'oberon-bsp) (autoloadp (symbol-function 'oberon-bsp-global-mode))
+                         (assoc-default "A.Mod" auto-mode-alist 'string-match))))"""
+        words = ["emacs", "-Q", "--batch", "--eval", code]
+        ran = subprocess.run(words, capture_output=True, text=True, env=stage.environment())
+        expect(ran.stdout.splitlines()[-1:], ["(t nil oberon-mode)"], f"the package ({ran.stderr})")
+
+
+def next_error_leads_on(stage):
+    """next-error goes through the errors of the workspace, also those of files that aren't open"""
+    editor = stage.start()
+    library, user = library_and_user(stage)
+    editor.open(library)
+    rename_export(editor, library, "Add", "Plus")
+    editor.command_in(library, editor.compile_all)
+    stage.sees_state(library, "1 error")
+    editor.open(library)
+    here = "(vector (file-name-nondirectory buffer-file-name) (line-number-at-pos))"
+    expect(editor.ask(f"(save-current-buffer (next-error) {here})"), ["User.Mod", 4], "next-error leads to")
+
+
+def flymake_lists_project(stage):
+    """Flymake's list of the project has the errors of files that aren't open"""
+    editor = stage.start()
+    library, user = library_and_user(stage)
+    editor.open(library)
+    rename_export(editor, library, "Add", "Plus")
+    editor.command_in(library, editor.compile_all)
+    stage.sees_state(library, "1 error")
+    code = "(vconcat (mapcar #'flymake-diagnostic-text (flymake--project-diagnostics (project-current))))"
+    expect(editor.ask(editor.inside(library, code)), ["unknown name: Add"], "Flymake's list")
+
+
+def other_backends_stay(stage):
+    """another backend of Flymake stays beside this one, also when the mode is turned off"""
+    editor = stage.start()
+    _, module = stage.workspace()
+    module.write_text(module.read_text().replace(GREETING, "$"))
+    editor.do("""(add-hook 'find-file-hook (lambda ()
+        (add-hook 'flymake-diagnostic-functions (lambda (report &rest _) (funcall report nil)) nil t)))""")
+    editor.open(module)
+    stage.sees_state(module, "1 error")
+    count = "(length (remq t flymake-diagnostic-functions))"
+    expect(editor.ask(editor.inside(module, count)), 2, "backends")
+    expect(editor.ask(editor.inside(module, f"(progn (oberon-bsp-mode -1) {count})")), 1, "backends without the mode")
+
+
+TESTS = (package_installs, next_error_leads_on, flymake_lists_project, other_backends_stay)

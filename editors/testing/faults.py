@@ -1,0 +1,149 @@
+"""Faults that a person would notice, each as a change of a package, with the test that has to see it."""
+import collections
+
+Fault = collections.namedtuple("Fault", "what editor edits test")
+
+# What is planted, the test, and for each editor a file and two texts, or several such.
+TABLE = (
+    (
+        "errors and warnings are swapped in the text", "errors_and_warnings",
+        ("nvim", "lua/oberon-bsp/display.lua", "SEVERITIES[diagnostic.severity]", "SEVERITIES[3 - diagnostic.severity]"),
+        ("emacs", "oberon-bsp-shown.el", "((or 1 'nil) :error)\n    (2 :warning)", "((or 1 'nil) :warning)\n    (2 :error)"),
+    ),
+    (
+        "errors and warnings are swapped in the list", "errors_and_warnings",
+        ("nvim", "lua/oberon-bsp/display.lua", "and 'E' or 'W'", "and 'W' or 'E'"),
+        ("emacs", "oberon-bsp-list.el", '"error" "warning"', '"warning" "error"'),
+    ),
+    (
+        "an open list is never brought up to date", "open_list_renewed",
+        ("nvim", "lua/oberon-bsp/display.lua", "  renew_list(session)\n", ""),
+        ("emacs", "oberon-bsp-list.el", "        (tabulated-list-print t)", "        nil"),
+    ),
+    (
+        "equal lists of two targets are doubled", "equal_lists_once",
+        ("nvim", "lua/oberon-bsp/shown.lua", "is_new and not vim.deep_equal(list, other)", "is_new"),
+        ("emacs", "oberon-bsp-shown.el", "(cl-pushnew list (gethash (car key) lists) :test #'equal)",
+         "(push list (gethash (car key) lists))"),
+    ),
+    (
+        "a file that is saved into another workspace keeps its session", "saved_elsewhere",
+        ("nvim", "lua/oberon-bsp/buffers.lua", "  if not member or member.session.root ~= root then", "  if not member then",
+         "lua/oberon-bsp/init.lua", "{ 'BufUnload', 'BufFilePost' }", "{ 'BufUnload' }"),
+        ("emacs", "oberon-bsp.el", "   ((oberon-bsp--is-elsewhere)\n", "   ((not oberon-bsp--session)\n"),
+    ),
+    (
+        "pieces are put together in the wrong order", "many_pieces",
+        ("nvim", "lua/oberon-bsp/shown.lua",
+         "vim.list_extend(not params.reset and lists[target] or {}, params.diagnostics)",
+         "vim.list_extend(params.diagnostics, not params.reset and lists[target] or {})"),
+        ("emacs", "oberon-bsp-shown.el", "(reverse (cons nil pieces))", "(append pieces (list nil))"),
+    ),
+    (
+        "a piece without reset replaces those before it", "many_pieces",
+        ("nvim", "lua/oberon-bsp/shown.lua", "not params.reset and lists[target] or {}", "{}"),
+        ("emacs", "oberon-bsp-shown.el", "(unless (eq reset t) (gethash key shown))", "nil"),
+    ),
+    (
+        "a renamed buffer keeps its file", "renamed",
+        ("nvim", "lua/oberon-bsp/init.lua", "{ 'BufUnload', 'BufFilePost' }", "{ 'BufUnload' }"),
+        ("emacs", "oberon-bsp-session.el", "(file-relative-name buffer-file-name",
+         "(file-relative-name (with-memoization (get 'oberon-bsp--file (current-buffer)) buffer-file-name)"),
+    ),
+    (
+        "shutdown is never sent", "shutdown_on_close",
+        ("nvim", "lua/oberon-bsp/lifecycle.lua", "left.request('build/shutdown', nil, function()\n    left.notify('build/exit')\n  end)",
+         "left.notify('build/exit')"),
+        ("emacs", "oberon-bsp-server.el", "(oberon-bsp--request session :build/shutdown nil leave leave)", "(funcall leave nil)"),
+    ),
+    (
+        "servers aren't ended when the editor is quit", "shutdown_on_quit",
+        ("nvim", "lua/oberon-bsp/init.lua", "  on('VimLeavePre', require('oberon-bsp.lifecycle').leave_all)\n", "",
+         "lua/oberon-bsp/init.lua", "{ 'BufUnload', 'BufFilePost' }", "{ 'BufFilePost' }"),
+        ("emacs", "oberon-bsp-server.el", "(add-hook 'kill-emacs-hook #'oberon-bsp--leave-all)", ""),
+    ),
+    (
+        "late publications of a server that was left are shown", "late_publications",
+        ("nvim", "lua/oberon-bsp/lifecycle.lua", "if session.server == own and ACTS[method] then", "if ACTS[method] then"),
+        ("emacs", "oberon-bsp-server.el", "(when (eq connection (oberon-bsp--session-connection session))\n    (pcase method",
+         "(progn (ignore connection)\n    (pcase method"),
+    ),
+    (
+        "a dependent target's errors are missing", "dependents_compiled",
+        ("nvim", "lua/oberon-bsp/compiling.lua", "      compile_open(session)\n    else", "      compile(session, session.targets[path])\n    else"),
+        ("emacs", "oberon-bsp-compile.el", "         (oberon-bsp--compile-open session)\n       (oberon-bsp--tell-outside",
+         "         (oberon-bsp--compile session (oberon-bsp--targets-of session file))\n       (oberon-bsp--tell-outside"),
+    ),
+    (
+        "a compile of every target compiles those of open files alone", "every_target_compiled",
+        ("nvim", "lua/oberon-bsp/commands.lua", "    compiling.every(session)", "    compiling.opened(session)"),
+        ("emacs", "oberon-bsp.el", "(oberon-bsp--compile-every session)", "(oberon-bsp--compile-opened session)"),
+    ),
+    (
+        "an editor whose terminal is closed goes on", "ended_by_hangup",
+        ("nvim", "lua/oberon-bsp/lifecycle.lua", "  vim.wait(2000, function()\n    return #", "  vim.wait(2 ^ 30, function()\n    return 1 + #"),
+        ("emacs", "oberon-bsp-server.el", "(< 0 (cl-decf rounds))", "t", "oberon-bsp-server.el",
+         "        (jsonrpc-async-request connection :build/shutdown nil :timeout nil)\n"
+         "        (jsonrpc-notify connection :build/exit nil)", "        (ignore connection)"),
+    ),
+    (
+        "an editor that is terminated goes on", "ended_by_termination",
+        ("nvim", "lua/oberon-bsp/lifecycle.lua", "  vim.wait(2000, function()\n    return #", "  vim.wait(2 ^ 30, function()\n    return 1 + #"),
+        ("emacs", "oberon-bsp-server.el", "(< 0 (cl-decf rounds))", "t", "oberon-bsp-server.el",
+         "        (jsonrpc-async-request connection :build/shutdown nil :timeout nil)\n"
+         "        (jsonrpc-notify connection :build/exit nil)", "        (ignore connection)"),
+    ),
+    (
+        "a message is longer than the line", "eighty_columns",
+        ("nvim", "lua/oberon-bsp/say.lua", "vim.notify(fitted(line), ", "vim.notify(line, "),
+    ),
+    (
+        "a dead server looks like a clean file", "state_of_servers",
+        ("nvim", "lua/oberon-bsp/state.lua", "  return string.format('%s (%s)', session.state, session.why or '')", "  return 'clean'"),
+        ("emacs", "oberon-bsp-shown.el", '(state (format "%s (%s)" state (oberon-bsp--session-why session)))', '(_ "clean")'),
+    ),
+    (
+        "a refused workspace looks like a clean file", "state_of_refusals",
+        ("nvim", "lua/oberon-bsp/lifecycle.lua", "  session.state, session.why = 'refused', problem.message", "  session.state = 'open'"),
+        ("emacs", "oberon-bsp-server.el", "(setf (oberon-bsp--session-state session) 'refused", "(setf (oberon-bsp--session-state session) 'open"),
+    ),
+    (
+        "checks that are done aren't counted", "state_of_checks",
+        ("nvim", "lua/oberon-bsp/compiling.lua", "session.done = session.done + 1", "session.done = session.done"),
+        ("emacs", "oberon-bsp-compile.el", "(cl-incf (oberon-bsp--session-done session))", "(ignore session)"),
+    ),
+    (
+        "a compile that finds nothing says nothing", "state_of_files",
+        ("nvim", "lua/oberon-bsp/compiling.lua", "    say.info('no errors", "    string.format('no errors"),
+        ("emacs", "oberon-bsp-compile.el", '(oberon-bsp--say "no errors', '(ignore "no errors'),
+    ),
+    (
+        "the state isn't in its line", "state_of_files",
+        ("nvim", "lua/oberon-bsp/init.lua", " %{v:lua.require'oberon-bsp'.statusline()}", ""),
+        ("emacs", "oberon-bsp.el", '(:eval (format " Oberon:%s" (oberon-bsp-state)))', '" Oberon"'),
+    ),
+    (
+        "a workspace file that is made later takes nothing in", "workspace_made_later",
+        ("nvim", "lua/oberon-bsp/buffers.lua", "      take_in(root)\n", ""),
+        ("emacs", "oberon-bsp.el", "        (oberon-bsp--take-in)", "        nil"),
+    ),
+    (
+        "columns are counted in code points", "error_shown_and_mended",
+        ("nvim", "lua/oberon-bsp/places.lua", "math.max(units, 0), true)", "math.max(units, 0), false)"),
+        ("emacs", "oberon-bsp-places.el", "(if (< #xffff (char-after)) 2 1)", "1"),
+    ),
+    (
+        "what ends a construct isn't taken back", "indented_by_structure",
+        ("nvim", "lua/oberon-bsp/indent.lua", "{ END = true, UNTIL = true, BEGIN = true }", "{ UNTIL = true, BEGIN = true }"),
+        ("emacs", "oberon-mode.el", "\\\\(END\\\\|UNTIL\\\\|BEGIN\\\\)", "\\\\(UNTIL\\\\|BEGIN\\\\)"),
+    ),
+)
+
+
+
+def edits_of(words):
+    """The edits of a row, three words each."""
+    return tuple(words[at : at + 3] for at in range(0, len(words), 3))
+
+
+FAULTS = tuple(Fault(what, row[0], edits_of(row[1:]), test) for what, test, *rows in TABLE for row in rows)
