@@ -19,10 +19,7 @@ use worker_pool::InlineCrew;
 /// output and standard error.
 pub fn run_program<
     R: Input<Reader = StdinLock<'static>> + Threads + Wait + Copy + Drop + Send + Sync + 'static,
->(
-    rt: HostRuntime,
-    threads: R,
-) -> ExitCode {
+>(rt: HostRuntime, threads: R) -> ExitCode {
     exit_code(run_real(rt, threads))
 }
 
@@ -38,10 +35,7 @@ fn exit_code(ran: Result<Ended, NoMemory>) -> ExitCode
 
 fn run_real<
     R: Input<Reader = StdinLock<'static>> + Threads + Wait + Copy + Drop + Send + Sync + 'static,
->(
-    rt: HostRuntime,
-    threads: R,
-) -> Result<Ended, NoMemory> {
+>(rt: HostRuntime, threads: R) -> Result<Ended, NoMemory> {
     let alloc = rt.alloc();
     let words = program_words(&rt)?;
     let asked = read_words(words.as_slice());
