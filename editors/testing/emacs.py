@@ -1,4 +1,5 @@
 """Drives Emacs without a screen: it opens, changes and saves files, and tells what a person would see."""
+import contextlib
 import json
 import subprocess
 
@@ -53,8 +54,10 @@ class Emacs:
         return ["-nw", "--eval", "(menu-bar-mode 0)", "--eval", go, str(path)]
 
     def is_ready(self):
-        """Whether it answers, and has read its init file."""
-        return self.socket.exists() and self.ask("(if (featurep 'oberon-bsp) t :false)")
+        """Whether it answers, and has read its init file. Its socket is there a moment before it listens."""
+        with contextlib.suppress(Missed):
+            return self.socket.exists() and self.ask("(if (featurep 'oberon-bsp) t :false)")
+        return False
 
     def do(self, code):
         return self.ask(f"(progn {code} t)")

@@ -29,8 +29,8 @@ def next_error_leads_on(stage):
     editor.command_in(library, editor.compile_all)
     stage.sees_state(library, "1 error")
     editor.open(library)
-    here = "(vector (file-name-nondirectory buffer-file-name) (line-number-at-pos))"
-    expect(editor.ask(f"(save-current-buffer (next-error) {here})"), ["User.Mod", 4], "next-error leads to")
+    here = "(with-current-buffer (window-buffer) (vector (file-name-nondirectory buffer-file-name) (line-number-at-pos)))"
+    expect(editor.ask(f"(progn (next-error) {here})"), ["User.Mod", 4], "next-error leads to")
 
 
 def flymake_lists_project(stage):
