@@ -154,7 +154,10 @@ What a server says that was left before isn't this session's any more."
             (oberon-bsp--session-can-reload session)
             (eq t (plist-get capabilities :canReload)))
       (oberon-bsp--notify session :build/initialized)
-      (oberon-bsp--compile-opened session))))
+      (oberon-bsp--compile-opened session)
+      (when (oberon-bsp--session-is-every-due session)
+        (setf (oberon-bsp--session-is-every-due session) nil)
+        (oberon-bsp--compile-every session)))))
 
 (defun oberon-bsp--reload (session)
   "Let the server of SESSION have the workspace file as it is now."

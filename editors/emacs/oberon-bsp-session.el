@@ -41,12 +41,14 @@ many questions for these are open.  COMPILE is the compile that isn't
 answered yet, as its id and its targets; CHECKS is a table of the checks
 that it has begun, and DONE how many of these are done.  IS-COMPILED
 tells whether one was answered, and FAILED why the last one failed.
-COUNTS are the numbers of errors and warnings, where they are known."
+COUNTS are the numbers of errors and warnings, where they are known.
+IS-EVERY-DUE tells whether every target is to be compiled once the
+session is open."
   root connection (state 'ended) why can-reload
   (shown (make-hash-table :test #'equal)) counts
   (targets (make-hash-table :test #'equal)) (asked 0)
   compile (checks (make-hash-table :test #'equal)) (done 0)
-  is-compiled failed)
+  is-compiled failed is-every-due)
 
 (defvar oberon-bsp--sessions (make-hash-table :test #'equal)
   "The sessions by their root, the folder of the workspace file.")

@@ -49,6 +49,7 @@
   (let ((session (oberon-bsp--this-session)))
     (if (eq 'open (oberon-bsp--session-state session))
         (oberon-bsp--compile-every session)
+      (setf (oberon-bsp--session-is-every-due session) t)
       (oberon-bsp--compile-in session nil))))
 
 (defun oberon-bsp--compile-in (session file)

@@ -34,6 +34,7 @@ local function compile_all(session, path)
   if session.state == 'open' then
     compiling.every(session)
   else
+    session.is_every_due = true
     buffers.compile(session, path)
   end
 end

@@ -106,6 +106,10 @@ function M.open(session)
     session.can_reload = (result.capabilities or {}).canReload == true
     requests.notify(session, 'build/initialized', vim.empty_dict())
     compiling.opened(session)
+    if session.is_every_due then
+      session.is_every_due = nil
+      compiling.every(session)
+    end
   end, function(problem)
     refused(session, problem)
   end)

@@ -8,6 +8,7 @@
 --   targets   the targets of each file, as the server told them
 --   compile   the compile that isn't answered yet (compiling.lua)
 --   failed    why the last compile failed
+--   is_every_due  whether every target is to be compiled once it is open
 --   begun, done   how many checks that compile has begun, and how many of these are done
 local M = {}
 
