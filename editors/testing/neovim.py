@@ -1,4 +1,5 @@
 """Drives Neovim without a screen: it opens, changes and saves files, and tells what a person would see."""
+import contextlib
 import json
 import subprocess
 
@@ -48,7 +49,10 @@ require('oberon-bsp').setup {{ program = {self.text(program)}, timeout = {timeou
         return ["-c", "lua vim.defer_fn(function() vim.diagnostic.goto_next() end, 8000)", str(path)]
 
     def is_ready(self):
-        return self.socket.exists()
+        """Whether it answers. Its socket is there a moment before it listens."""
+        with contextlib.suppress(Missed):
+            return self.socket.exists() and self.ask("return true")
+        return False
 
     def do(self, code):
         return self.ask(f"{code} return true")
