@@ -139,13 +139,19 @@ class Emacs:
         self.listed(path)
 
     def rows(self):
+        """The lines of the list as they are drawn, which aren't always what it would have if it were drawn now."""
         return self.ask(
             """(with-current-buffer "*oberon-bsp errors*"
-                 (vconcat (mapcar (lambda (entry)
-                   (let ((row (cadr entry)))
-                     (vector (aref row 0) (string-to-number (aref row 1)) (string-to-number (aref row 2))
-                             (aref row 3) (format "%s [%s]" (aref row 5) (aref row 4)))))
-                   (funcall tabulated-list-entries))))"""
+                 (save-excursion
+                   (goto-char (point-min))
+                   (let (rows)
+                     (while (not (eobp))
+                       (when-let ((row (tabulated-list-get-entry)))
+                         (push (vector (aref row 0) (string-to-number (aref row 1)) (string-to-number (aref row 2))
+                                       (aref row 3) (format "%s [%s]" (aref row 5) (aref row 4)))
+                               rows))
+                       (forward-line))
+                     (vconcat (nreverse rows)))))"""
         )
 
     def visit_first(self):

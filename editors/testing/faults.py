@@ -30,7 +30,8 @@ TABLE = (
         "a file that is saved into another workspace keeps its session", "saved_elsewhere",
         ("nvim", "lua/oberon-bsp/buffers.lua", "  if not member or member.session.root ~= root then", "  if not member then",
          "lua/oberon-bsp/init.lua", "{ 'BufUnload', 'BufFilePost' }", "{ 'BufUnload' }"),
-        ("emacs", "oberon-bsp.el", "   ((oberon-bsp--is-elsewhere)\n", "   ((not oberon-bsp--session)\n"),
+        ("emacs", "oberon-bsp.el", "   ((oberon-bsp--is-elsewhere)\n", "   ((not oberon-bsp--session)\n",
+         "oberon-bsp.el", "  (oberon-bsp--leave)\n  (add-hook 'after-save-hook", "  (add-hook 'after-save-hook"),
     ),
     (
         "pieces are put together in the wrong order", "many_pieces",
@@ -138,7 +139,6 @@ TABLE = (
         ("emacs", "oberon-mode.el", "\\\\(END\\\\|UNTIL\\\\|BEGIN\\\\)", "\\\\(UNTIL\\\\|BEGIN\\\\)"),
     ),
 )
-
 
 
 def edits_of(words):
