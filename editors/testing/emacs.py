@@ -96,6 +96,20 @@ class Emacs:
         self.open(path)
         return self.ask(self.inside(path, "(progn (indent-region (point-min) (point-max)) (buffer-string))"))
 
+    def seconds_to_indent(self, path):
+        """The processor seconds in which all lines of a file are indented."""
+        self.open(path)
+        spent = "(float-time (get-internal-run-time))"
+        code = f"(let ((before {spent})) (indent-region (point-min) (point-max)) (- {spent} before))"
+        return self.ask(self.inside(path, code))
+
+    def colour(self, path, text):
+        """What the first place of a text is shown as."""
+        face = "(get-text-property (match-beginning 0) 'face)"
+        name = f"(if {face} (string-trim (symbol-name {face}) \"font-lock-\" \"-face\") \"\")"
+        find = f"(goto-char (point-min)) (let ((case-fold-search nil)) (search-forward {self.text(text)}))"
+        return self.ask(self.inside(path, f"(progn (font-lock-ensure) {find} {name})"))
+
     def read_again(self, path):
         self.do(self.inside(path, "(revert-buffer t t)"))
 

@@ -2,9 +2,9 @@
 import subprocess
 import tempfile
 
-from .common import GREETING, expect
-from .lists import library_and_user, rename_export
-from .waiting import EDITORS
+from .common import GREETING, WIDE, expect
+from .lists import LIBRARY, library_and_user, rename_export
+from .waiting import EDITORS, ROOT, wait_until
 
 
 def package_installs(stage):
@@ -59,4 +59,41 @@ def other_backends_stay(stage):
     expect(editor.ask(editor.inside(module, f"(progn (oberon-bsp-mode -1) {count})")), 1, "backends without the mode")
 
 
-TESTS = (package_installs, next_error_leads_on, flymake_lists_project, other_backends_stay)
+def compile_leads_to_errors(stage):
+    """M-x compile with tools/oberon-check finds errors, and next-error leads to one behind a tab and wide characters"""
+    editor = stage.start()
+    folder, module = stage.workspace()
+    module.write_text(module.read_text().replace("  " + GREETING, f'\tOut.String("\u6f22{WIDE}") $;'))
+    editor.open(module)
+    command = f"{ROOT}/tools/oberon-check --program {stage.program} {folder}"
+    editor.do(f"(require 'compile) (compile {editor.text(command)})")
+    ended = '(if (get-buffer-process "*compilation*") :false t)'
+    wait_until("the compilation doesn't end", lambda: editor.ask(ended))
+    here = "(vector (buffer-name) (buffer-substring-no-properties (point) (line-end-position)))"
+    led = editor.ask(f"(progn (next-error) (with-current-buffer (window-buffer) {here}))")
+    expect(led, ["Hello.Mod", "$;"], "next-error leads to")
+
+
+def mode_of_its_own(stage):
+    """modules have a mode for programs, with a list of procedures, keys and a menu"""
+    editor = stage.start()
+    folder, _ = stage.workspace()
+    (folder / "Library.Mod").write_text(LIBRARY)
+    editor.open(folder / "Library.Mod")
+    ask = lambda code: editor.ask(editor.inside(folder / "Library.Mod", code))
+    expect(ask("(vector (symbol-name major-mode) (if (derived-mode-p 'prog-mode) t :false))"), ["oberon-mode", True], "the mode")
+    expect(ask("(progn (require 'imenu) (vconcat (mapcar #'car (imenu-default-create-index-function))))"), ["Add"], "the procedures")
+    keys = {"C-c C-c": "compile", "C-c C-a": "compile-all", "C-c C-l": "errors", "C-c C-r": "restart"}
+    for key, command in keys.items():
+        expect(ask(f'(symbol-name (key-binding (kbd "{key}")))'), f"oberon-bsp-{command}", key)
+    expect(ask("(if (keymapp (key-binding [menu-bar Oberon])) t :false)"), True, "there is a menu")
+
+
+TESTS = (
+    package_installs,
+    next_error_leads_on,
+    flymake_lists_project,
+    other_backends_stay,
+    compile_leads_to_errors,
+    mode_of_its_own,
+)

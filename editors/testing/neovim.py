@@ -100,6 +100,21 @@ require('oberon-bsp').setup {{ program = {self.text(program)}, timeout = {timeou
         self.open(path)
         return self.ask('vim.cmd("silent normal! gg=G") return vim.fn.join(vim.fn.getline(1, "$"), "\\n") .. "\\n"')
 
+    def seconds_to_indent(self, path):
+        """The processor seconds in which all lines of a file are indented."""
+        self.open(path)
+        return self.ask('local before = os.clock() vim.cmd("silent normal! gg=G") return os.clock() - before')
+
+    def colour(self, path, text):
+        """What the first place of a text is shown as."""
+        self.open(path)
+        name = self.ask(
+            f"""vim.fn.cursor(1, 1)
+            local place = vim.fn.searchpos({self.text(chr(92) + "C" + chr(92) + "V" + text)}, "c")
+            return vim.fn.synIDattr(vim.fn.synID(place[1], place[2], 1), "name")"""
+        )
+        return name.removeprefix("oberon").lower()
+
     def read_again(self, path):
         self.do(self.inside(path, "vim.cmd('edit!')"))
 
