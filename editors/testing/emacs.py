@@ -93,7 +93,6 @@ class Emacs:
 
     def indented(self, path):
         """The text of a file behind each of its lines was indented."""
-        self.open(path)
         return self.ask(self.inside(path, "(progn (indent-region (point-min) (point-max)) (buffer-string))"))
 
     def seconds_to_indent(self, path):

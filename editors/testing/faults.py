@@ -138,6 +138,30 @@ TABLE = (
         ("nvim", "lua/oberon-bsp/indent.lua", "{ END = true, UNTIL = true, BEGIN = true }", "{ UNTIL = true, BEGIN = true }"),
         ("emacs", "oberon-mode.el", "\\\\(END\\\\|UNTIL\\\\|BEGIN\\\\)", "\\\\(UNTIL\\\\|BEGIN\\\\)"),
     ),
+    (
+        "each line is indented from the front of the text on", "indented_in_one_walk",
+        ("nvim", "lua/oberon-bsp/indent.lua", "for at = lines.last, number - 1 do", "for at = 1, number - 1 do"),
+        ("emacs", "oberon-mode.el", "(while (and oberon--known (< begin (caar oberon--known)))\n    (pop oberon--known))",
+         "(ignore begin)\n  (setq oberon--known nil)"),
+    ),
+    (
+        "what is open isn't reckoned anew behind a change", "indented_behind_change",
+        ("nvim", "lua/oberon-bsp/indent.lua", "        known[buffer].last = math.min(known[buffer].last, first + 1)\n", ""),
+        ("emacs", "oberon-mode.el", "  (add-hook 'before-change-functions #'oberon--forget-behind nil t)\n", ""),
+    ),
+    (
+        "comments don't nest", "coloured",
+        ("nvim", "syntax/oberon.vim", " contains=oberonComment", ""),
+        ("emacs", "oberon-mode.el", '")(4n"', '")(4"', "oberon-mode.el", '"()1n"', '"()1"', "oberon-mode.el", '". 23n"', '". 23"'),
+    ),
+    (
+        "columns of the command line are counted as those of the screen", "compile_leads_to_errors",
+        ("emacs", "oberon-mode.el", "compilation-error-screen-columns nil)", "compilation-error-screen-columns t)"),
+    ),
+    (
+        "a command has no help", "help_is_there",
+        ("nvim", "doc/tags", ":OberonBspJoin\toberon-bsp.txt\t/*:OberonBspJoin*\n", ""),
+    ),
 )
 
 

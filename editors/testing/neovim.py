@@ -97,8 +97,8 @@ require('oberon-bsp').setup {{ program = {self.text(program)}, timeout = {timeou
 
     def indented(self, path):
         """The text of a file behind each of its lines was indented."""
-        self.open(path)
-        return self.ask('vim.cmd("silent normal! gg=G") return vim.fn.join(vim.fn.getline(1, "$"), "\\n") .. "\\n"')
+        self.do(self.inside(path, 'vim.cmd("silent normal! gg=G")'))
+        return self.ask(f'return vim.fn.join(vim.fn.getbufline({self.text(path)}, 1, "$"), "\\n") .. "\\n"')
 
     def seconds_to_indent(self, path):
         """The processor seconds in which all lines of a file are indented."""

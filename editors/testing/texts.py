@@ -30,7 +30,19 @@ def indented_by_structure(stage):
         text = module.read_text()
         copy = stage.folder / module.name
         copy.write_text("".join(line.lstrip(" ") for line in text.splitlines(keepends=True)))
+        editor.open(copy)
         expect(editor.indented(copy), text, module.name)
+
+
+def indented_behind_change(stage):
+    """lines behind one that was changed are indented by what it is now"""
+    editor = stage.start()
+    module = stage.folder / "Hello.Mod"
+    module.write_text("MODULE Hello;\nBEGIN\nx := 1;\ny := 2\nEND Hello.\n")
+    editor.open(module)
+    expect(editor.indented(module), "MODULE Hello;\nBEGIN\n  x := 1;\n  y := 2\nEND Hello.\n", "indented")
+    editor.replace(module, "x := 1;", "REPEAT x := 1;")
+    expect(editor.indented(module), "MODULE Hello;\nBEGIN\n  REPEAT x := 1;\n    y := 2\n  END Hello.\n", "indented again")
 
 
 def indented_in_one_walk(stage):
@@ -58,4 +70,4 @@ def coloured(stage):
     expect({text: editor.colour(module, text) for text in wanted}, wanted, "what the words are shown as")
 
 
-TESTS = (indented_by_structure, indented_in_one_walk, coloured)
+TESTS = (indented_by_structure, indented_behind_change, indented_in_one_walk, coloured)
