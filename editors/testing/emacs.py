@@ -161,7 +161,7 @@ class Emacs:
                      (while (not (eobp))
                        (when-let ((row (tabulated-list-get-entry)))
                          (push (vector (aref row 0) (string-to-number (aref row 1)) (string-to-number (aref row 2))
-                                       (aref row 3) (format "%s [%s]" (aref row 5) (aref row 4)))
+                                       (aref row 3) (aref row 4))
                                rows))
                        (forward-line))
                      (vconcat (nreverse rows)))))"""

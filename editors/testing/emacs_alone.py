@@ -4,6 +4,7 @@ import tempfile
 
 from .common import GREETING, WIDE, expect
 from .lists import LIBRARY, library_and_user, rename_export
+from .stage import WORKSPACE_FILE
 from .waiting import EDITORS, ROOT, wait_until
 
 
@@ -31,6 +32,44 @@ def next_error_leads_on(stage):
     editor.open(library)
     here = "(with-current-buffer (window-buffer) (vector (file-name-nondirectory buffer-file-name) (line-number-at-pos)))"
     expect(editor.ask(f"(progn (next-error) {here})"), ["User.Mod", 4], "next-error leads to")
+
+
+def list_stays_beside_files(stage):
+    """the list names files as they stand below the workspace, has the package's keys, and stays in its window"""
+    stage.start_in_terminal()
+    editor = stage.editor
+    folder, _ = stage.workspace()
+    (folder / "deep").mkdir()
+    file = folder / WORKSPACE_FILE
+    file.write_text(file.read_text().replace("Hello.Mod", "deep/Hello.Mod"))
+    module = folder / "deep" / "Hello.Mod"
+    module.write_text("MODULE Hello;\n$\nEND Hello.\n")
+    editor.open(module)
+    stage.sees_state(module, "1 error")
+    row = ["deep/Hello.Mod", 2, 1, "error", "bad character [badCharacter]"]
+    expect(editor.listed(module), [row], "the list with the file open")
+    list_window = '(get-buffer-window "*oberon-bsp errors*")'
+    keys = '(symbol-name (key-binding (kbd "C-c C-a")))'
+    editor.do(f"(select-window {list_window})")
+    expect(editor.ask(f'(with-current-buffer "*oberon-bsp errors*" {keys})'), "oberon-bsp-compile-all", "C-c C-a")
+    shown = f"(vector (buffer-name (window-buffer)) (if {list_window} t :false))"
+    expect(editor.ask(f"(with-current-buffer (window-buffer) (next-error) {shown})"), ["Hello.Mod", True], "windows")
+
+
+def own_words_stay(stage):
+    """what is said of a new server isn't replaced by what the end of the old one means to jsonrpc"""
+    stage.start_in_terminal()
+    editor = stage.editor
+    folder, module = stage.workspace()
+    editor.open(module)
+    stage.sees_state(module, "clean")
+    first = stage.server()
+    (folder / WORKSPACE_FILE).write_text("{}")
+    editor.command_in(module, editor.restart)
+    stage.sees_state(module, "refused (workspace refused: BadField version)")
+    wait_until("the first server still runs", lambda: first not in stage.servers())
+    wait_until("its end isn't noticed", lambda: any("exited with status 0" in line for line in editor.lines()))
+    expect(editor.ask("(current-message)"), "oberon-bsp: not opened: workspace refused: BadField version", "said last is")
 
 
 def flymake_lists_project(stage):
@@ -92,6 +131,8 @@ def mode_of_its_own(stage):
 TESTS = (
     package_installs,
     next_error_leads_on,
+    list_stays_beside_files,
+    own_words_stay,
     flymake_lists_project,
     other_backends_stay,
     compile_leads_to_errors,

@@ -162,6 +162,27 @@ TABLE = (
         "a command has no help", "help_is_there",
         ("nvim", "doc/tags", ":OberonBspJoin\toberon-bsp.txt\t/*:OberonBspJoin*\n", ""),
     ),
+    (
+        "the list's files have no folders", "list_stays_beside_files",
+        ("emacs", "oberon-bsp-list.el", "(name (file-relative-name file root))", "(name (file-name-nondirectory file))"),
+    ),
+    (
+        "next-error takes the list's window", "list_stays_beside_files",
+        ("emacs", "oberon-bsp-list.el", "(eq (window-buffer) (get-buffer oberon-bsp--list-name))", "nil"),
+    ),
+    (
+        "commands don't work in the list", "commands_from_list",
+        ("nvim", "lua/oberon-bsp/commands.lua", "return member or listed and", "return member or false and"),
+    ),
+    (
+        "commands have no keys in the list", "list_stays_beside_files",
+        ("emacs", "oberon-bsp.el", "(make-composed-keymap oberon-bsp-mode-map\n                                         tabulated-list-mode-map)",
+         "tabulated-list-mode-map"),
+    ),
+    (
+        "jsonrpc's words stand in place of the package's", "own_words_stay",
+        ("emacs", "oberon-bsp-server.el", "(inhibit-message t)", "(inhibit-message nil)"),
+    ),
 )
 
 

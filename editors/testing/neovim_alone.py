@@ -2,6 +2,7 @@
 import shutil
 
 from .common import GREETING, expect
+from .lists import USER, library_and_user
 from .stage import WORKSPACE_FILE
 from .waiting import EDITORS, Missed
 
@@ -38,6 +39,19 @@ def health_is_told(stage):
             raise Missed(f"the health is {said}, without {part}")
 
 
+def commands_from_list(stage):
+    """commands in the window of the list of errors are for the list's workspace"""
+    editor = stage.start()
+    library, user = library_and_user(stage)
+    user.write_text(USER.replace("Add", "Plus"))
+    editor.open(library)
+    stage.sees_state(library, "clean")
+    editor.list_in_window(library)
+    editor.do("vim.cmd('OberonBspCompileAll')")
+    stage.sees_state(library, "1 error")
+    expect([row[0] for row in editor.rows()], ["User.Mod"], "the files in the list")
+
+
 def compiler_finds_errors(stage):
     """:make with the package's compiler lists the errors of the command line"""
     editor = stage.start()
@@ -45,8 +59,8 @@ def compiler_finds_errors(stage):
     module.write_text(module.read_text().replace(GREETING, "$"))
     editor.open(module)
     program = f"--program {stage.program} {folder}"
-    editor.do(f"vim.cmd('compiler oberon-check') vim.cmd([[silent make! {program}]])")
+    editor.do(f"vim.cmd('compiler! oberon-check') vim.cmd('enew') vim.cmd([[silent make! {program}]])")
     expect(editor.rows(), [["Hello.Mod", 5, 3, "error", "bad character [badCharacter]"]], "listed")
 
 
-TESTS = (help_is_there, health_is_told, compiler_finds_errors)
+TESTS = (help_is_there, health_is_told, commands_from_list, compiler_finds_errors)
