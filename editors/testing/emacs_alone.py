@@ -64,12 +64,14 @@ def own_words_stay(stage):
     editor.open(module)
     stage.sees_state(module, "clean")
     first = stage.server()
+    editor.do("(setq seen nil set-message-function (lambda (text) (push (substring-no-properties text) seen) nil))")
     (folder / WORKSPACE_FILE).write_text("{}")
     editor.command_in(module, editor.restart)
     stage.sees_state(module, "refused (workspace refused: BadField version)")
     wait_until("the first server still runs", lambda: first not in stage.servers())
     wait_until("its end isn't noticed", lambda: any("exited with status 0" in line for line in editor.lines()))
-    expect(editor.ask("(current-message)"), "oberon-bsp: not opened: workspace refused: BadField version", "said last is")
+    refusal = "oberon-bsp: not opened: workspace refused: BadField version"
+    expect(editor.ask("(vconcat (seq-remove #'string-empty-p seen))")[:1], [refusal], "shown last is")
 
 
 def flymake_lists_project(stage):
