@@ -27,9 +27,21 @@
                                ("Kind" 7 nil)
                                ("Message and code" 0 nil)]
         tabulated-list-entries
-        (lambda () (oberon-bsp--entries oberon-bsp--listed)))
+        (lambda () (oberon-bsp--entries oberon-bsp--listed))
+        tabulated-list-printer #'oberon-bsp--print)
   (setq-local next-error-function #'oberon-bsp--next)
   (tabulated-list-init-header))
+
+(defun oberon-bsp--print (id row)
+  "Insert a line with ID and the columns of ROW.
+Emacs has a function for this, which takes several times as long."
+  (pcase-let ((start (point))
+              (`[,file ,line ,column ,kind ,told] row))
+    (when (< 20 (string-width file))
+      (setq file (truncate-string-to-width file 20 nil nil t)))
+    (insert (format "%-20s %5s %6s %-7s %s\n" file line column kind told))
+    (add-text-properties
+     start (point) (list 'tabulated-list-id id 'tabulated-list-entry row))))
 
 (defun oberon-bsp--list-buffer (session)
   "The buffer that lists the errors of SESSION, which is made if need be."
