@@ -48,10 +48,10 @@ class Emacs:
             raise Missed(f"{code} failed: {ran.stdout}{ran.stderr}")
         return json.loads(answer.read_text())
 
-    def shown_words(self, path):
-        """The words that open a file at its first error."""
-        go = "(run-with-timer 8 nil (lambda () (goto-char (point-min)) (call-interactively #'flymake-goto-next-error)))"
-        return ["-nw", "--eval", "(menu-bar-mode 0)", "--eval", go, str(path)]
+    def go_to_error(self, path):
+        """Goes to the last error of a file in its window, as a person does."""
+        code = f"(select-window (get-buffer-window (find-buffer-visiting {self.text(path)})))"
+        self.do(f"{code} (goto-char (point-max)) (call-interactively #'flymake-goto-prev-error)")
 
     def is_ready(self):
         """Whether it answers, and has read its init file. Its socket is there a moment before it listens."""

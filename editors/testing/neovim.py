@@ -45,8 +45,12 @@ require('oberon-bsp').setup {{ program = {self.text(program)}, timeout = {timeou
             raise Missed(f"{code} failed: {ran.stdout}{ran.stderr}")
         return json.loads(answer.read_text())
 
-    def shown_words(self, path):
-        return ["-c", "lua vim.defer_fn(function() vim.diagnostic.goto_next() end, 8000)", str(path)]
+    def go_to_error(self, path):
+        """Goes to the last error of a file in its window, as a person does."""
+        self.do(
+            f"""vim.fn.win_gotoid(vim.fn.win_findbuf(vim.fn.bufnr({self.text(path)}))[1])
+            vim.cmd("normal! G") vim.diagnostic.goto_prev()"""
+        )
 
     def is_ready(self):
         """Whether it answers. Its socket is there a moment before it listens."""
