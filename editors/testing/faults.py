@@ -82,14 +82,14 @@ TABLE = (
     ),
     (
         "an editor whose terminal is closed goes on", "ended_by_hangup",
-        ("nvim", "lua/oberon-bsp/lifecycle.lua", "  vim.wait(2000, function()\n    return #", "  vim.wait(2 ^ 30, function()\n    return 1 + #"),
+        ("nvim", "lua/oberon-bsp/display.lua", "  if sessions.is_leaving then\n    return\n  end\n", ""),
         ("emacs", "oberon-bsp-server.el", "(< 0 (cl-decf rounds))", "t", "oberon-bsp-server.el",
          "        (jsonrpc-async-request connection :build/shutdown nil :timeout nil)\n"
          "        (jsonrpc-notify connection :build/exit nil)", "        (ignore connection)"),
     ),
     (
         "an editor that is terminated goes on", "ended_by_termination",
-        ("nvim", "lua/oberon-bsp/lifecycle.lua", "  vim.wait(2000, function()\n    return #", "  vim.wait(2 ^ 30, function()\n    return 1 + #"),
+        ("nvim", "lua/oberon-bsp/display.lua", "  if sessions.is_leaving then\n    return\n  end\n", ""),
         ("emacs", "oberon-bsp-server.el", "(< 0 (cl-decf rounds))", "t", "oberon-bsp-server.el",
          "        (jsonrpc-async-request connection :build/shutdown nil :timeout nil)\n"
          "        (jsonrpc-notify connection :build/exit nil)", "        (ignore connection)"),
