@@ -97,7 +97,8 @@ Files are named as they stand below the workspace."
                  (vector name
                          (number-to-string line)
                          (number-to-string column)
-                         (if (oberon-bsp--is-error diagnostic) "error" "warning")
+                         (if (oberon-bsp--is-error diagnostic)
+                             "error" "warning")
                          (oberon-bsp--told diagnostic))))))
      diagnostics)))
 

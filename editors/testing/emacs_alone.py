@@ -122,8 +122,10 @@ def mode_of_its_own(stage):
     (folder / "Library.Mod").write_text(LIBRARY)
     editor.open(folder / "Library.Mod")
     ask = lambda code: editor.ask(editor.inside(folder / "Library.Mod", code))
-    expect(ask("(vector (symbol-name major-mode) (if (derived-mode-p 'prog-mode) t :false))"), ["oberon-mode", True], "the mode")
-    expect(ask("(progn (require 'imenu) (vconcat (mapcar #'car (imenu-default-create-index-function))))"), ["Add"], "the procedures")
+    mode = "(vector (symbol-name major-mode) (if (derived-mode-p 'prog-mode) t :false))"
+    expect(ask(mode), ["oberon-mode", True], "the mode")
+    procedures = "(progn (require 'imenu) (vconcat (mapcar #'car (imenu-default-create-index-function))))"
+    expect(ask(procedures), ["Add"], "the procedures")
     keys = {"C-c C-c": "compile", "C-c C-a": "compile-all", "C-c C-l": "errors", "C-c C-r": "restart"}
     for key, command in keys.items():
         expect(ask(f'(symbol-name (key-binding (kbd "{key}")))'), f"oberon-bsp-{command}", key)
