@@ -58,7 +58,24 @@ Emacs has a function for this, which takes several times as long."
   (when-let ((list (get-buffer oberon-bsp--list-name)))
     (with-current-buffer list
       (when (eq session oberon-bsp--listed)
-        (tabulated-list-print t)))))
+        (let ((id (tabulated-list-get-id))
+              (is-visited (not (oberon-bsp--is-unvisited)))
+              (row (count-lines (point-min) (line-beginning-position))))
+          (tabulated-list-print t)
+          (unless (equal id (tabulated-list-get-id))
+            ;; Where an error went the next one stands in its row.
+            (goto-char (point-min))
+            (forward-line row)
+            (setq is-visited nil))
+          (oberon-bsp--show-row is-visited))))))
+
+(defun oberon-bsp--show-row (is-visited)
+  "Have windows of this list show the line of point.
+Where it IS-VISITED it has an arrow."
+  (setq overlay-arrow-position
+        (if is-visited (copy-marker (line-beginning-position))))
+  (dolist (window (get-buffer-window-list nil nil t))
+    (set-window-point window (point))))
 
 (defun oberon-bsp--entries (session)
   "What SESSION shows, as entries of a list.
@@ -137,7 +154,7 @@ With RESET count from the first one, before which the list begins."
     (setq count (1- count)))
   (unless (and (zerop (forward-line count)) (tabulated-list-get-id))
     (user-error "No more errors"))
-  (setq overlay-arrow-position (copy-marker (line-beginning-position)))
+  (oberon-bsp--show-row t)
   (oberon-bsp--go (tabulated-list-get-id)))
 
 (defun oberon-bsp--is-unvisited ()

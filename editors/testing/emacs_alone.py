@@ -34,6 +34,30 @@ def next_error_leads_on(stage):
     expect(editor.ask(f"(progn (next-error) {here})"), ["User.Mod", 4], "next-error leads to")
 
 
+def next_error_skips_none(stage):
+    """behind an error that was mended next-error leads to the one below it, and the list's window shows where it is"""
+    stage.start_in_terminal()
+    editor = stage.editor
+    _, module = stage.workspace()
+    module.write_text("MODULE Hello;\n" + "$\n" * 40 + "END Hello.\n")
+    editor.open(module)
+    stage.sees_state(module, "40 errors")
+    editor.list_in_window(module)
+    window = '(get-buffer-window "*oberon-bsp errors*")'
+    lines = f"""(vector (with-current-buffer (find-buffer-visiting {editor.text(module)}) (line-number-at-pos))
+        (with-selected-window {window} (line-number-at-pos)) (if (pos-visible-in-window-p nil {window}) t :false))"""
+    step = lambda count: editor.ask(f"(with-current-buffer (window-buffer) (next-error {count}) (redisplay) {lines})")
+    expect(step(30), [31, 30, True], "the thirtieth")
+    editor.replace(module, "$\n" * 29, "\n" + "$\n" * 28)
+    editor.save(module)
+    stage.sees_state(module, "39 errors")
+    expect(step(1)[:2], [32, 30], "the next one behind one that was mended above")
+    editor.do(editor.inside(module, "(goto-char (point-min)) (forward-line 31) (delete-char 1)"))
+    editor.save(module)
+    stage.sees_state(module, "38 errors")
+    expect(step(1)[:2], [33, 30], "the next one behind one that was mended")
+
+
 def list_stays_beside_files(stage):
     """the list names files as they stand below the workspace, has the package's keys, and stays in its window"""
     stage.start_in_terminal()
@@ -135,6 +159,7 @@ def mode_of_its_own(stage):
 TESTS = (
     package_installs,
     next_error_leads_on,
+    next_error_skips_none,
     list_stays_beside_files,
     own_words_stay,
     flymake_lists_project,

@@ -171,6 +171,14 @@ TABLE = (
         ("emacs", "oberon-bsp-list.el", "(eq (window-buffer) (get-buffer oberon-bsp--list-name))", "nil"),
     ),
     (
+        "next-error skips what follows an error that was mended", "next_error_skips_none",
+        ("emacs", "oberon-bsp-list.el", "            (setq is-visited nil))", "            )"),
+    ),
+    (
+        "the list's window doesn't show where next-error is", "next_error_skips_none",
+        ("emacs", "oberon-bsp-list.el", "(set-window-point window (point))", "(ignore window)"),
+    ),
+    (
         "commands don't work in the list", "commands_from_list",
         ("nvim", "lua/oberon-bsp/commands.lua", "return member or listed and", "return member or false and"),
     ),
