@@ -71,9 +71,11 @@ Emacs has a function for this, which takes several times as long."
 
 (defun oberon-bsp--show-row (is-visited)
   "Have windows of this list show the line of point.
-Where it IS-VISITED it has an arrow."
-  (setq overlay-arrow-position
-        (if is-visited (copy-marker (line-beginning-position))))
+Where it IS-VISITED it has the arrow, of which there is one in Emacs."
+  (cond
+   (is-visited
+    (setq overlay-arrow-position (copy-marker (line-beginning-position))))
+   ((not (oberon-bsp--is-unvisited)) (setq overlay-arrow-position nil)))
   (dolist (window (get-buffer-window-list nil nil t))
     (set-window-point window (point))))
 

@@ -56,6 +56,11 @@ def next_error_skips_none(stage):
     editor.save(module)
     stage.sees_state(module, "38 errors")
     expect(step(1)[:2], [33, 30], "the next one behind one that was mended")
+    editor.do('(with-current-buffer "*scratch*" (setq overlay-arrow-position (point-marker)))')
+    editor.do(editor.inside(module, "(goto-char (point-min)) (forward-line 32) (delete-char 1)"))
+    editor.save(module)
+    stage.sees_state(module, "37 errors")
+    expect(editor.ask("(buffer-name (marker-buffer overlay-arrow-position))"), "*scratch*", "the arrow is in")
 
 
 def list_stays_beside_files(stage):
