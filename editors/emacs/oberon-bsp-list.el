@@ -21,16 +21,27 @@
 
 (define-derived-mode oberon-bsp-errors-mode tabulated-list-mode "Oberon errors"
   "A list of errors and warnings of a workspace."
-  (setq tabulated-list-format [("File" 24 nil)
-                               ("Line" 6 nil :right-align t)
+  (setq tabulated-list-format [("File" 20 nil)
+                               ("Line" 5 nil :right-align t)
                                ("Column" 6 nil :right-align t)
-                               ("Kind" 8 nil)
-                               ("Code" 17 nil)
-                               ("Message" 0 nil)]
+                               ("Kind" 7 nil)
+                               ("Message and code" 0 nil)]
         tabulated-list-entries
-        (lambda () (oberon-bsp--entries oberon-bsp--listed)))
+        (lambda () (oberon-bsp--entries oberon-bsp--listed))
+        tabulated-list-printer #'oberon-bsp--print)
   (setq-local next-error-function #'oberon-bsp--next)
   (tabulated-list-init-header))
+
+(defun oberon-bsp--print (id row)
+  "Insert a line with ID and the columns of ROW.
+Emacs has a function for this, which takes several times as long."
+  (pcase-let ((start (point))
+              (`[,file ,line ,column ,kind ,told] row))
+    (when (< 20 (string-width file))
+      (setq file (truncate-string-to-width file 20 nil nil t)))
+    (insert (format "%-20s %5s %6s %-7s %s\n" file line column kind told))
+    (add-text-properties
+     start (point) (list 'tabulated-list-id id 'tabulated-list-entry row))))
 
 (defun oberon-bsp--list-buffer (session)
   "The buffer that lists the errors of SESSION, which is made if need be."
@@ -47,17 +58,38 @@
   (when-let ((list (get-buffer oberon-bsp--list-name)))
     (with-current-buffer list
       (when (eq session oberon-bsp--listed)
-        (tabulated-list-print t)))))
+        (let ((id (tabulated-list-get-id))
+              (is-visited (not (oberon-bsp--is-unvisited)))
+              (row (count-lines (point-min) (line-beginning-position))))
+          (tabulated-list-print t)
+          (unless (equal id (tabulated-list-get-id))
+            ;; Where an error went the next one stands in its row.
+            (goto-char (point-min))
+            (forward-line row)
+            (setq is-visited nil))
+          (oberon-bsp--show-row is-visited))))))
+
+(defun oberon-bsp--show-row (is-visited)
+  "Have windows of this list show the line of point.
+Where it IS-VISITED it has the arrow, of which there is one in Emacs."
+  (cond
+   (is-visited
+    (setq overlay-arrow-position (copy-marker (line-beginning-position))))
+   ((not (oberon-bsp--is-unvisited)) (setq overlay-arrow-position nil)))
+  (dolist (window (get-buffer-window-list nil nil t))
+    (set-window-point window (point))))
 
 (defun oberon-bsp--entries (session)
-  "What SESSION shows, as entries of a list."
-  (seq-mapcat
-   (pcase-lambda (`(,file . ,diagnostics))
-     (oberon-bsp--in-text
-      file
-      (lambda ()
-        (oberon-bsp--entries-here file (file-relative-name file) diagnostics))))
-   (oberon-bsp--shown-files session)))
+  "What SESSION shows, as entries of a list.
+Files are named as they stand below the workspace."
+  (let ((root (oberon-bsp--session-root session)))
+    (seq-mapcat
+     (pcase-lambda (`(,file . ,diagnostics))
+       (let ((name (file-relative-name file root)))
+         (oberon-bsp--in-text
+          file
+          (lambda () (oberon-bsp--entries-here file name diagnostics)))))
+     (oberon-bsp--shown-files session))))
 
 (defun oberon-bsp--in-text (file act)
   "Call ACT where the text of FILE is: in its buffer, where it has one."
@@ -84,16 +116,26 @@
                  (vector name
                          (number-to-string line)
                          (number-to-string column)
-                         (if (oberon-bsp--is-error diagnostic) "error" "warning")
-                         (format "%s" (or (plist-get diagnostic :code) ""))
-                         (plist-get diagnostic :message))))))
+                         (if (oberon-bsp--is-error diagnostic)
+                             "error" "warning")
+                         (oberon-bsp--told diagnostic))))))
      diagnostics)))
+
+(defun oberon-bsp--told (diagnostic)
+  "The message of DIAGNOSTIC, and its code where it has one."
+  (let ((message (plist-get diagnostic :message))
+        (code (plist-get diagnostic :code)))
+    (if code (format "%s [%s]" message code) message)))
 
 ;;;; Going to an error
 
-(defun oberon-bsp--place-of (entry)
-  "Show the place of ENTRY, a file and a place of the protocol, here."
-  (find-file (car entry))
+(defun oberon-bsp--go (entry)
+  "Go to the place of ENTRY, a file and a place of the protocol.
+The list stays in its window where it has one."
+  (let ((file (find-file-noselect (car entry))))
+    (if (eq (window-buffer) (get-buffer oberon-bsp--list-name))
+        (pop-to-buffer file)
+      (pop-to-buffer-same-window file)))
   (widen)
   (goto-char (funcall (oberon-bsp--positions) (cdr entry))))
 
@@ -102,8 +144,7 @@
   (interactive)
   (let ((entry (or (tabulated-list-get-id) (user-error "No error here"))))
     (setq next-error-last-buffer (current-buffer))
-    (pop-to-buffer (find-file-noselect (car entry)))
-    (oberon-bsp--place-of entry)))
+    (oberon-bsp--go entry)))
 
 (defun oberon-bsp--next (count reset)
   "Go to the error COUNT lines below in this list.
@@ -115,8 +156,8 @@ With RESET count from the first one, before which the list begins."
     (setq count (1- count)))
   (unless (and (zerop (forward-line count)) (tabulated-list-get-id))
     (user-error "No more errors"))
-  (setq overlay-arrow-position (copy-marker (line-beginning-position)))
-  (oberon-bsp--place-of (tabulated-list-get-id)))
+  (oberon-bsp--show-row t)
+  (oberon-bsp--go (tabulated-list-get-id)))
 
 (defun oberon-bsp--is-unvisited ()
   "Whether no error of this list was gone to yet."

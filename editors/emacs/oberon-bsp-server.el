@@ -77,7 +77,15 @@ Return the connection to it."
            oberon-bsp--no-events)))
     (add-function :around (process-filter (jsonrpc--process connection))
                   #'oberon-bsp--filter)
+    (add-function :around (process-sentinel (jsonrpc--process connection))
+                  #'oberon-bsp--sentinel)
     connection))
+
+(defun oberon-bsp--sentinel (act process change)
+  "Have ACT, the sentinel of jsonrpc, act on CHANGE of PROCESS.
+What it says itself would stand in place of what this package says."
+  (let ((inhibit-message t))
+    (funcall act process change)))
 
 (defun oberon-bsp--filter (read process text)
   "Give TEXT of PROCESS to READ, which is the filter of jsonrpc.

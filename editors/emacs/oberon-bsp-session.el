@@ -25,7 +25,8 @@
 
 (defun oberon-bsp--say (format &rest arguments)
   "Show the person one line, made from FORMAT and ARGUMENTS."
-  (message "oberon-bsp: %s" (apply #'format format arguments)))
+  (let ((inhibit-message nil))
+    (message "oberon-bsp: %s" (apply #'format format arguments))))
 
 (cl-defstruct (oberon-bsp--session
                (:constructor oberon-bsp--make-session (root))

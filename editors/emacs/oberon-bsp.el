@@ -92,6 +92,11 @@ Those of files that aren't open are listed too."
     "---"
     ["Restart the server" oberon-bsp-restart]))
 
+;; The list of errors has these keys too.
+(set-keymap-parent oberon-bsp-errors-mode-map
+                   (make-composed-keymap oberon-bsp-mode-map
+                                         tabulated-list-mode-map))
+
 ;;;###autoload
 (define-minor-mode oberon-bsp-mode
   "Show what the build server oberon-bsp finds in this buffer's file.

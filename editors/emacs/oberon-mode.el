@@ -8,7 +8,10 @@
 ;;; Code:
 
 (require 'prog-mode)
+(require 'seq)
 (require 'syntax)
+
+(defvar compilation-error-screen-columns)
 
 (defgroup oberon nil
   "Modules of Oberon-07."
@@ -91,21 +94,41 @@ COLUMN is that at which the line of the token begins."
       (cons (cons 'block (cdar open)) (cdr open))
     open))
 
+(defvar-local oberon--known nil
+  "Places of this buffer and the constructs that are open there.
+The last place is the first of the list.  Lines that are indented one
+after another take one way through the text.")
+
+(defun oberon--forget-behind (begin _end)
+  "Forget what is open behind BEGIN, where the text is to change."
+  (while (and oberon--known (< begin (caar oberon--known)))
+    (pop oberon--known)))
+
 (defun oberon--open-at (end)
-  "The constructs that are open at END."
+  "The constructs that are open at END, where no token is under way."
   (save-excursion
-    (goto-char (point-min))
-    (let ((case-fold-search nil) open)
-      (while (re-search-forward oberon--token end t)
-        (let ((token (match-string-no-properties 0)))
-          (cond
-           ((nth 8 (save-excursion (syntax-ppss (match-beginning 0)))))
-           ((looking-at-p "\\*") ; behind the front of a comment
-            (unless (equal token "(")
-              (setq open (oberon--behind open token (current-indentation)))))
-           (t
-            (setq open (oberon--behind open token (current-indentation)))))))
-      open)))
+    (save-restriction
+      (widen)
+      (pcase-let ((`(,place . ,open)
+                   (or (seq-find (lambda (known) (<= (car known) end))
+                                 oberon--known)
+                       (list (point-min)))))
+        (goto-char place)
+        (setq open (oberon--open-behind open end))
+        (when (< (or (caar oberon--known) 0) end)
+          (push (cons end open) oberon--known))
+        open))))
+
+(defun oberon--open-behind (open end)
+  "The constructs that are open at END, where those at point are OPEN."
+  (let ((case-fold-search nil))
+    (while (re-search-forward oberon--token end t)
+      (let ((token (match-string-no-properties 0)))
+        (unless (or (nth 8 (save-excursion (syntax-ppss (match-beginning 0))))
+                    ;; Behind the front of a comment.
+                    (and (equal token "(") (looking-at-p "\\*")))
+          (setq open (oberon--behind open token (current-indentation))))))
+    open))
 
 (defun oberon--inside (open)
   "The column of the parts of the innermost construct of OPEN.
@@ -153,6 +176,7 @@ A comment stands as what it is about."
 ;;;###autoload
 (define-derived-mode oberon-mode prog-mode "Oberon"
   "A mode for modules of Oberon-07."
+  (add-hook 'before-change-functions #'oberon--forget-behind nil t)
   (setq-local comment-start "(* "
               comment-end " *)"
               comment-start-skip "(\\*+[ \t]*"
@@ -160,7 +184,9 @@ A comment stands as what it is about."
               indent-line-function #'oberon-indent-line
               imenu-generic-expression oberon--imenu
               imenu-case-fold-search nil
-              font-lock-defaults '(oberon--font-lock)))
+              font-lock-defaults '(oberon--font-lock)
+              ;; Columns of tools/oberon-check are counted in characters.
+              compilation-error-screen-columns nil))
 
 ;;;###autoload
 (add-to-list 'auto-mode-alist '("\\.Mod\\'" . oberon-mode))

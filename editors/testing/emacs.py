@@ -48,10 +48,10 @@ class Emacs:
             raise Missed(f"{code} failed: {ran.stdout}{ran.stderr}")
         return json.loads(answer.read_text())
 
-    def shown_words(self, path):
-        """The words that open a file at its first error."""
-        go = "(run-with-timer 8 nil (lambda () (goto-char (point-min)) (call-interactively #'flymake-goto-next-error)))"
-        return ["-nw", "--eval", "(menu-bar-mode 0)", "--eval", go, str(path)]
+    def go_to_error(self, path):
+        """Goes to the last error of a file in its window, as a person does."""
+        code = f"(select-window (get-buffer-window (find-buffer-visiting {self.text(path)})))"
+        self.do(f"{code} (goto-char (point-max)) (call-interactively #'flymake-goto-prev-error)")
 
     def is_ready(self):
         """Whether it answers, and has read its init file. Its socket is there a moment before it listens."""
@@ -93,8 +93,21 @@ class Emacs:
 
     def indented(self, path):
         """The text of a file behind each of its lines was indented."""
-        self.open(path)
         return self.ask(self.inside(path, "(progn (indent-region (point-min) (point-max)) (buffer-string))"))
+
+    def seconds_to_indent(self, path):
+        """The processor seconds in which all lines of a file are indented."""
+        self.open(path)
+        spent = "(float-time (get-internal-run-time))"
+        code = f"(let ((before {spent})) (indent-region (point-min) (point-max)) (- {spent} before))"
+        return self.ask(self.inside(path, code))
+
+    def colour(self, path, text):
+        """What the first place of a text is shown as."""
+        face = "(get-text-property (match-beginning 0) 'face)"
+        name = f"(if {face} (string-trim (symbol-name {face}) \"font-lock-\" \"-face\") \"\")"
+        find = f"(goto-char (point-min)) (let ((case-fold-search nil)) (search-forward {self.text(text)}))"
+        return self.ask(self.inside(path, f"(progn (font-lock-ensure) {find} {name})"))
 
     def read_again(self, path):
         self.do(self.inside(path, "(revert-buffer t t)"))
@@ -139,13 +152,19 @@ class Emacs:
         self.listed(path)
 
     def rows(self):
+        """The lines of the list as they are drawn, which aren't always what it would have if it were drawn now."""
         return self.ask(
             """(with-current-buffer "*oberon-bsp errors*"
-                 (vconcat (mapcar (lambda (entry)
-                   (let ((row (cadr entry)))
-                     (vector (aref row 0) (string-to-number (aref row 1)) (string-to-number (aref row 2))
-                             (aref row 3) (format "%s [%s]" (aref row 5) (aref row 4)))))
-                   (funcall tabulated-list-entries))))"""
+                 (save-excursion
+                   (goto-char (point-min))
+                   (let (rows)
+                     (while (not (eobp))
+                       (when-let ((row (tabulated-list-get-entry)))
+                         (push (vector (aref row 0) (string-to-number (aref row 1)) (string-to-number (aref row 2))
+                                       (aref row 3) (aref row 4))
+                               rows))
+                       (forward-line))
+                     (vconcat (nreverse rows)))))"""
         )
 
     def visit_first(self):

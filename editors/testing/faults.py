@@ -30,7 +30,8 @@ TABLE = (
         "a file that is saved into another workspace keeps its session", "saved_elsewhere",
         ("nvim", "lua/oberon-bsp/buffers.lua", "  if not member or member.session.root ~= root then", "  if not member then",
          "lua/oberon-bsp/init.lua", "{ 'BufUnload', 'BufFilePost' }", "{ 'BufUnload' }"),
-        ("emacs", "oberon-bsp.el", "   ((oberon-bsp--is-elsewhere)\n", "   ((not oberon-bsp--session)\n"),
+        ("emacs", "oberon-bsp.el", "   ((oberon-bsp--is-elsewhere)\n", "   ((not oberon-bsp--session)\n",
+         "oberon-bsp.el", "  (oberon-bsp--leave)\n  (add-hook 'after-save-hook", "  (add-hook 'after-save-hook"),
     ),
     (
         "pieces are put together in the wrong order", "many_pieces",
@@ -81,14 +82,14 @@ TABLE = (
     ),
     (
         "an editor whose terminal is closed goes on", "ended_by_hangup",
-        ("nvim", "lua/oberon-bsp/lifecycle.lua", "  vim.wait(2000, function()\n    return #", "  vim.wait(2 ^ 30, function()\n    return 1 + #"),
+        ("nvim", "lua/oberon-bsp/display.lua", "  if sessions.is_leaving then\n    return\n  end\n", ""),
         ("emacs", "oberon-bsp-server.el", "(< 0 (cl-decf rounds))", "t", "oberon-bsp-server.el",
          "        (jsonrpc-async-request connection :build/shutdown nil :timeout nil)\n"
          "        (jsonrpc-notify connection :build/exit nil)", "        (ignore connection)"),
     ),
     (
         "an editor that is terminated goes on", "ended_by_termination",
-        ("nvim", "lua/oberon-bsp/lifecycle.lua", "  vim.wait(2000, function()\n    return #", "  vim.wait(2 ^ 30, function()\n    return 1 + #"),
+        ("nvim", "lua/oberon-bsp/display.lua", "  if sessions.is_leaving then\n    return\n  end\n", ""),
         ("emacs", "oberon-bsp-server.el", "(< 0 (cl-decf rounds))", "t", "oberon-bsp-server.el",
          "        (jsonrpc-async-request connection :build/shutdown nil :timeout nil)\n"
          "        (jsonrpc-notify connection :build/exit nil)", "        (ignore connection)"),
@@ -137,8 +138,60 @@ TABLE = (
         ("nvim", "lua/oberon-bsp/indent.lua", "{ END = true, UNTIL = true, BEGIN = true }", "{ UNTIL = true, BEGIN = true }"),
         ("emacs", "oberon-mode.el", "\\\\(END\\\\|UNTIL\\\\|BEGIN\\\\)", "\\\\(UNTIL\\\\|BEGIN\\\\)"),
     ),
+    (
+        "each line is indented from the front of the text on", "indented_in_one_walk",
+        ("nvim", "lua/oberon-bsp/indent.lua", "for at = lines.last, number - 1 do", "for at = 1, number - 1 do"),
+        ("emacs", "oberon-mode.el", "(while (and oberon--known (< begin (caar oberon--known)))\n    (pop oberon--known))",
+         "(ignore begin)\n  (setq oberon--known nil)"),
+    ),
+    (
+        "what is open isn't reckoned anew behind a change", "indented_behind_change",
+        ("nvim", "lua/oberon-bsp/indent.lua", "        known[buffer].last = math.min(known[buffer].last, first + 1)\n", ""),
+        ("emacs", "oberon-mode.el", "  (add-hook 'before-change-functions #'oberon--forget-behind nil t)\n", ""),
+    ),
+    (
+        "comments don't nest", "coloured",
+        ("nvim", "syntax/oberon.vim", " contains=oberonComment", ""),
+        ("emacs", "oberon-mode.el", '")(4n"', '")(4"', "oberon-mode.el", '"()1n"', '"()1"', "oberon-mode.el", '". 23n"', '". 23"'),
+    ),
+    (
+        "columns of the command line are counted as those of the screen", "compile_leads_to_errors",
+        ("emacs", "oberon-mode.el", "compilation-error-screen-columns nil)", "compilation-error-screen-columns t)"),
+    ),
+    (
+        "a command has no help", "help_is_there",
+        ("nvim", "doc/tags", ":OberonBspJoin\toberon-bsp.txt\t/*:OberonBspJoin*\n", ""),
+    ),
+    (
+        "the list's files have no folders", "list_stays_beside_files",
+        ("emacs", "oberon-bsp-list.el", "(name (file-relative-name file root))", "(name (file-name-nondirectory file))"),
+    ),
+    (
+        "next-error takes the list's window", "list_stays_beside_files",
+        ("emacs", "oberon-bsp-list.el", "(eq (window-buffer) (get-buffer oberon-bsp--list-name))", "nil"),
+    ),
+    (
+        "next-error skips what follows an error that was mended", "next_error_skips_none",
+        ("emacs", "oberon-bsp-list.el", "            (setq is-visited nil))", "            )"),
+    ),
+    (
+        "the list's window doesn't show where next-error is", "next_error_skips_none",
+        ("emacs", "oberon-bsp-list.el", "(set-window-point window (point))", "(ignore window)"),
+    ),
+    (
+        "commands don't work in the list", "commands_from_list",
+        ("nvim", "lua/oberon-bsp/commands.lua", "return member or listed and", "return member or false and"),
+    ),
+    (
+        "commands have no keys in the list", "list_stays_beside_files",
+        ("emacs", "oberon-bsp.el", "(make-composed-keymap oberon-bsp-mode-map\n                                         tabulated-list-mode-map)",
+         "tabulated-list-mode-map"),
+    ),
+    (
+        "jsonrpc's words stand in place of the package's", "own_words_stay",
+        ("emacs", "oberon-bsp-server.el", "(inhibit-message t)", "(inhibit-message nil)"),
+    ),
 )
-
 
 
 def edits_of(words):

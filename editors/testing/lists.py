@@ -142,10 +142,12 @@ def late_publications(stage):
     _, module = stage.workspace()
     editor.open(module)
     stage.sees_marks(module, STAND_IN_MARK)
+    compiled = lambda count: lambda: len(stage.received("buildTarget/compile")) == count
     editor.command_in(module, editor.restart)
+    wait_until("the next server compiles nothing", compiled(2))
     time.sleep(3)
     editor.command_in(module, editor.compile)
-    wait_until("the module isn't compiled again", lambda: len(stage.received("buildTarget/compile")) == 3)
+    wait_until("the module isn't compiled again", compiled(3))
     stage.sees_state(module, "1 error")
     stage.sees_marks(module, STAND_IN_MARK)
     expect(len(editor.listed(module)), 1, "errors in the list")

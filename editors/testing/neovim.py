@@ -45,8 +45,12 @@ require('oberon-bsp').setup {{ program = {self.text(program)}, timeout = {timeou
             raise Missed(f"{code} failed: {ran.stdout}{ran.stderr}")
         return json.loads(answer.read_text())
 
-    def shown_words(self, path):
-        return ["-c", "lua vim.defer_fn(function() vim.diagnostic.goto_next() end, 8000)", str(path)]
+    def go_to_error(self, path):
+        """Goes to the last error of a file in its window, as a person does."""
+        self.do(
+            f"""vim.fn.win_gotoid(vim.fn.win_findbuf(vim.fn.bufnr({self.text(path)}))[1])
+            vim.cmd("normal! G") vim.diagnostic.goto_prev()"""
+        )
 
     def is_ready(self):
         """Whether it answers. Its socket is there a moment before it listens."""
@@ -97,8 +101,23 @@ require('oberon-bsp').setup {{ program = {self.text(program)}, timeout = {timeou
 
     def indented(self, path):
         """The text of a file behind each of its lines was indented."""
+        self.do(self.inside(path, 'vim.cmd("silent normal! gg=G")'))
+        return self.ask(f'return vim.fn.join(vim.fn.getbufline({self.text(path)}, 1, "$"), "\\n") .. "\\n"')
+
+    def seconds_to_indent(self, path):
+        """The processor seconds in which all lines of a file are indented."""
         self.open(path)
-        return self.ask('vim.cmd("silent normal! gg=G") return vim.fn.join(vim.fn.getline(1, "$"), "\\n") .. "\\n"')
+        return self.ask('local before = os.clock() vim.cmd("silent normal! gg=G") return os.clock() - before')
+
+    def colour(self, path, text):
+        """What the first place of a text is shown as."""
+        self.open(path)
+        name = self.ask(
+            f"""vim.fn.cursor(1, 1)
+            local place = vim.fn.searchpos({self.text(chr(92) + "C" + chr(92) + "V" + text)}, "c")
+            return vim.fn.synIDattr(vim.fn.synID(place[1], place[2], 1), "name")"""
+        )
+        return name.removeprefix("oberon").lower()
 
     def read_again(self, path):
         self.do(self.inside(path, "vim.cmd('edit!')"))

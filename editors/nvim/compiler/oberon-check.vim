@@ -6,5 +6,5 @@ endif
 let current_compiler = 'oberon-check'
 
 let s:script = get(g:, 'oberon_check', fnamemodify(resolve(expand('<sfile>:p')), ':h:h:h:h') . '/tools/oberon-check')
-let &l:makeprg = escape(s:script, ' \') . ' --bytes $*'
-setlocal errorformat=%f:%l:%c:\ %trror:\ %m,%f:%l:%c:\ %tarning:\ %m,%+Goberon-check:\ %m
+execute 'CompilerSet makeprg=' . escape(escape(s:script, ' \') . ' --bytes $*', ' \|"')
+CompilerSet errorformat=%f:%l:%c:\ %trror:\ %m,%f:%l:%c:\ %tarning:\ %m,%+Goberon-check:\ %m

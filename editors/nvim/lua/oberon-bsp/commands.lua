@@ -10,10 +10,17 @@ local state = require('oberon-bsp.state')
 
 local M = {}
 
+-- The session and the path of the buffer that the person is in. A list of errors stands for its workspace file.
+local function here()
+  local member = sessions.members[vim.api.nvim_get_current_buf()]
+  local listed = vim.bo.buftype == 'quickfix' and sessions.all[vim.fn.getqflist({ context = 0 }).context]
+  return member or listed and { session = listed, path = listed.root .. '/' .. sessions.WORKSPACE_FILE }
+end
+
 -- What is done with the session of the buffer that the person is in.
 local function with_session(act)
   return function()
-    local member = sessions.members[vim.api.nvim_get_current_buf()]
+    local member = here()
     if member then
       act(member.session, member.path)
     else
@@ -58,12 +65,11 @@ end
 
 -- Tells all there is to tell, which may take more than one line.
 local function tell_state()
-  local buffer = vim.api.nvim_get_current_buf()
-  local member = sessions.members[buffer]
+  local member = here()
   local lines = {
     'program:   ' .. options.values.program,
     'workspace: ' .. (member and member.session.root or 'none'),
-    'state:     ' .. (state.of_buffer(buffer) or 'off'),
+    'state:     ' .. (member and state.of(member.session, member.path) or 'off'),
   }
   vim.list_extend(lines, say.whole)
   vim.api.nvim_echo({ { table.concat(lines, '\n') } }, false, {})
