@@ -8,13 +8,13 @@ use Rattle.rpc_frame.proofs.DamageLaws.{damage_behind, damage_broken, damage_kin
 use Rattle.rpc_frame.proofs.FrameLaws.{FramesTo-append, sound_behind as sound_behind_frames, broken_rest, rest_no_border}
 use Rattle.session_law.specs.Order.{Event, takes_of}
 use Rattle.session_core.specs.declared.session.Core.{Core}
-use Rattle.session_core.proofs.AtRest.{stood_lawful}
 use Rattle.session_law.specs.Verdicts.{IsBare}
 use Rattle.bsp_cli.specs.Progress.{Progress, Stopped, fed, with_piece}
 use Rattle.bsp_cli.specs.Outside.{Heard, Told}
 use Rattle.bsp_cli.specs.Writing.{GoesThrough, Stops}
 use Rattle.bsp_cli.proofs.EventLaws.{takes_of-append, end_of-append, tells_append}
 use Rattle.bsp_cli.proofs.HeardLaws.{acts_course, patient_course, prompt_course}
+use Rattle.bsp_cli.proofs.WritingLaws.{stood_well}
 
 -- one frame and then such bytes
 one_frame : (bytes body after : List ℕ) → BeginsWith bytes body after → FramesTo bytes (body ∷ []) after
@@ -47,7 +47,7 @@ module _ (c d : Core) (old new : Waiting) (body : List ℕ) (from to : Heard) (s
   stopped_at stops =
       record {
         order = stops.events ++ so.order;
-        lawful = stops.lawful so.order so.stands;
+        well = stops.well so.order so.stands;
         unended = end_of-append stops.events so.order stops.ended ∙ so.unended;
         read = so.read;
         consumed = so.consumed;
@@ -66,7 +66,7 @@ pub stopped_here : (core : Core) (stream : Waiting) (from to : Heard) (start now
 stopped_here core stream from to start now so =
     record {
       order = so.order;
-      lawful = stood_lawful core so.order so.stands;
+      well = stood_well core so.order so.stands;
       unended = so.unended;
       read = so.read;
       consumed = so.consumed;

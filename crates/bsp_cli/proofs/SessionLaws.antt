@@ -167,6 +167,7 @@ module _ (from to : Heard) (start now : Told) (in_old in_new out_old out_new : �
   session_exits core stream status low so end last =
       record {
         lawful = stood_lawful core so.order so.stands;
+        rests = so.stands.rests;
         consumed = so.consumed;
         within = omega (arith, so.count);
         rest = [];
@@ -210,7 +211,8 @@ module _ (from to : Heard) (start now : Told) (in_old in_new out_old out_new : �
       → Session so.order so.read input (files start now) (written start now out_old out_new) status given_end None
   session_stops given_end status low high so last =
       record {
-        lawful = so.lawful;
+        lawful = so.well.lawful;
+        rests = so.well.rests;
         consumed = so.consumed;
         within = omega (arith, so.count);
         rest = [];
@@ -278,6 +280,7 @@ module _ (from to : Heard) (start middle now : Told) (in_old in_new out_old out_
       let tells = tells_append so.order steps.events [] start middle now so.tells steps.tells in
       record {
         lawful = stood_lawful d order stands;
+        rests = stands.rests;
         consumed = so.consumed;
         within = omega (arith, so.count);
         rest = stream.bytes;
@@ -303,7 +306,8 @@ module _ (from to : Heard) (start middle now : Told) (in_old in_new out_old out_
       let over = end_of-ended stops.events so.order (how_of ending) stops.ended in
       let tells = tells_append so.order stops.events stops.tail start middle now so.tells stops.tells in
       record {
-        lawful = stops.lawful so.order so.stands;
+        lawful = (stops.well so.order so.stands).lawful;
+        rests = (stops.well so.order so.stands).rests;
         consumed = so.consumed;
         within = omega (arith, so.count);
         rest = stream.bytes;
@@ -383,7 +387,7 @@ serves_nothing from now in_faults out_faults =
     serves_stop from from now now in_faults in_faults out_faults out_faults (⊥) 0 NoMemory (λ other. absurd (cc)) (λ other. absurd (cc)) (record {
       stopped = record {
         order = [];
-        lawful = record { each = tt };
+        well = record { lawful = record { each = tt }; rests = tt };
         unended = refl;
         read = [];
         consumed = takes_nothing from.left;

@@ -1,5 +1,5 @@
 -- What a session and its crew share, call by call.
-use Rattle.std.proofs.Common.{◌≡◌, ◌≢◌, ◌⊎◌, inl, inr, ◌++◌, ◌+◌, ◌<◌, ◌≤◌, ◌==◌, ℕ, suc, List, [], ◌∷◌, length, Bool, true, false, All, Contains, Option, Some, None, IfSome, refl, sym, ap, ◌∙◌, subst, arith, length-append}
+use Rattle.std.proofs.Common.{◌≡◌, ◌≢◌, ◌⊎◌, inl, inr, ◌++◌, ◌+◌, ◌-◌, ◌^◌, ◌<◌, ◌≤◌, ◌==◌, ℕ, suc, List, [], ◌∷◌, length, Bool, true, false, All, Contains, Option, Some, None, IfSome, refl, sym, ap, ◌∙◌, subst, arith, length-append}
 use Rattle.std.specs.Prelude.{if◌then◌else◌}
 use Rattle.std.proofs.lemmas.Bool.{cases_lt}
 use Rattle.std.proofs.lemmas.Bool.Decides.{nat_tests}
@@ -181,6 +181,12 @@ pub shares_given : (old next : Rest) (s t : Sight) (job : JobTree) → job.numbe
 shares_given old next s t job number back is gave so =
     let right : IsBack (record old { given = suc old.given }) job = subst (λ rest. IsBack rest job) is back in
     subst (λ rest. Shares rest t) (sym is) (shares_gave old s t job number right gave so)
+
+-- a job that was given leaves no more to do than before
+pub given_leaves : (old next : Rest) (s t : Sight) (job : JobTree) → job.number ≡ old.given → job.number < 2 ^ 64 - 1 → next ≡ record old { given = suc old.given } → Gave s t job → left_with next t ≤ left_with old s
+given_leaves old next s t job number below gave so =
+    let longer : length t.out ≡ length s.out + 1 = ap length so.out ∙ length-append s.out (job ∷ []) in
+    subst (λ (rest : Rest). left_with rest t ≤ left_with old s) (sym gave) (omega (arith, number, below, longer))
 
 -- the crew had no room for it
 pub may_give : (old : Rest) (s : Sight) (job : JobTree) → job.number ≡ old.given → Shares old s → s.next ≤ job.number

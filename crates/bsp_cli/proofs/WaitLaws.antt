@@ -13,7 +13,7 @@ use Rattle.rpc_frame.specs.Frames.{Frames, FramesTo, HasNoFrame, Waiting}
 use Rattle.rpc_frame.proofs.FrameLaws.{frames_more}
 use Rattle.session_law.specs.Order.{Event, takes_of}
 use Rattle.session_law.specs.Past.{status_after}
-use Rattle.session_core.proofs.AtRest.{is_caught_up, nothing_open, status_is}
+use Rattle.session_core.proofs.AtRest.{is_at_rest, nothing_open, status_is}
 use Rattle.session_core.specs.declared.session.Core.{Core}
 use Rattle.bsp_cli.proofs.EventLaws.{takes_of-append, end_of-append, tells_append}
 use Rattle.bsp_cli.proofs.HeardLaws.{end_course, may_end, may_idle, may_polled, may_polled_end, patient_course, piece_course, prompt_course, quiet_course, waited_course}
@@ -57,7 +57,7 @@ module _ (c d : Core) (stream : Waiting) (from to next : Heard) (start before be
       let course = next_course stops.events stops.takes in
       record {
         order = stops.events ++ so.order;
-        lawful = stops.lawful so.order so.stands;
+        well = stops.well so.order so.stands;
         unended = end_of-append stops.events so.order stops.ended ∙ so.unended;
         read = so.read;
         consumed = subst (λ l. Takes from.left l so.read) (sym left) so.consumed;
@@ -76,7 +76,7 @@ module _ (c d : Core) (stream : Waiting) (from to next : Heard) (start before be
   unfolding quiet_stopped
   quiet_waiting ready stops =
       let running = status_is c so.order ready.met.quiet ready.met.alive so.stands ∙ ready.running in
-      let caught = is_caught_up c so.order ready.met.quiet ready.met.alive ready.met.settled ready.met.up so.stands in
+      let caught = is_at_rest c so.order ready.met.quiet ready.met.alive ready.met.settled ready.met.up so.stands in
       record {
         stopped = quiet_stopped stops;
         waited = waited_course so.order so.read from to so.course stops.events next.course
@@ -98,7 +98,7 @@ module _ (core : Core) (stream : Waiting) (from to : Heard) (start now : Told) (
   running = status_is core so.order ready.met.quiet ready.met.alive so.stands ∙ ready.running
 
   caught : OwesNothingAtOnce so.order
-  caught = is_caught_up core so.order ready.met.quiet ready.met.alive ready.met.settled ready.met.up so.stands
+  caught = is_at_rest core so.order ready.met.quiet ready.met.alive ready.met.settled ready.met.up so.stands
 
   pub idle_none : core.head ≡ None → NoneOpen so.order
   idle_none idle = nothing_open core so.order ready.met.quiet ready.met.alive ready.met.settled idle so.stands

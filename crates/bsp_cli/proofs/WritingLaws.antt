@@ -9,7 +9,6 @@ use Rattle.bsp_edge.proofs.HandLaws.{hands_nothing}
 use Rattle.bsp_edge.proofs.StreamLaws.{gives_append, gives_nothing}
 use Rattle.rpc_peer.specs.Said.{Said}
 use Rattle.session_law.specs.IsFramed.{IsFramed, text_of}
-use Rattle.session_law.specs.Lawful.{Lawful}
 use Rattle.session_law.specs.Order.{Event, onto, take as takes_body, ends as ends_so, hand, write, takes_of, writes_of, hands_of, failures_of, end_of}
 use Rattle.ob_text.specs.Held.{Entries}
 use Rattle.session_core.specs.Standing.{StandsFor, IsQuiet}
@@ -19,12 +18,17 @@ use Rattle.session_core.proofs.AtRest.{stood_lawful}
 use Rattle.build_messages.specs.Outgoing.{outgoing_said}
 use Rattle.session_law.specs.declared.InputEnd.{InputEnd}
 use Rattle.bsp_cli.proofs.OntoLaws.{onto-append, onto-push, takes_of-onto, end_of-onto, writes_of-onto}
+use Rattle.bsp_cli.specs.declared.outcome.Outcome.TheVariants.{Stopped}
 use Rattle.bsp_cli.specs.declared.stop.Stop.{Stop}
 use Rattle.bsp_cli.specs.declared.stop.Stop.TheVariants.{Sink, NoMemory}
 use Rattle.bsp_cli.specs.Outside.{Told, told}
 use Rattle.bsp_cli.specs.Session.{RoseBy}
-use Rattle.bsp_cli.specs.Writing.{ActsThrough, Flushes, GivesFront, Halts, HaltsAt, IsAny, Sends, GoesThrough, Stops}
+use Rattle.bsp_cli.specs.Writing.{ActsThrough, Flushes, GivesFront, GoesWell, Halts, HaltsAt, IsAny, Sends, GoesThrough, Stops}
 use Rattle.bsp_cli.proofs.EventLaws.{takes_of-append, writes_of-append, end_of-append, tells_append, tells_messages, tells_nothing, tells_onto, unasked}
+
+-- an order that a core stands for goes well
+pub stood_well : (core : Core) (order : List Event) → StandsFor core order → GoesWell order
+stood_well core order stands = record { lawful = stood_lawful core order stands; rests = stands.rests }
 
 -- the bytes before this rest were given
 pub record GivesSoFar (old new : Option (List ℕ)) (bytes rest : List ℕ) : Type 0 where
@@ -119,6 +123,10 @@ on_ok (Err e) P p = tt
 pub stopped_so : {A B : Type 0} (e f : Stop) → IsErrOf {T = A} (Err e) f → IsErrOf {T = B} (Err e) f
 stopped_so e f failed = let same : e ≡ f = cc in ap Err same
 
+-- the outcome names the fault that stopped it
+pub outcome_so : {A : Type 0} (e f : Stop) → Stopped e ≡ Stopped f → IsErrOf {T = A} (Err e) f
+outcome_so e f same = let is : e ≡ f = cc in ap Err is
+
 pub if_ok_then : {A E : Type 0} (r : Result A E) (P Q : A → Type 0) → ((a : A) → P a → Q a) → IfOk r P → IfOk r Q
 if_ok_then (Ok a) P Q next p = next a p
 if_ok_then (Err e) P Q next p = tt
@@ -164,7 +172,7 @@ module _ (b c d : Core) (f g h : Option (List ℕ)) (m : Said) (so : Flushes b c
         unwritten = said_out c;
         all = so.all;
         tail = put.front;
-        lawful = λ order stands. stood_lawful c (onto so.messages order) (so.stands order stands);
+        well = λ order stands. stood_well c (onto so.messages order) (so.stands order stands);
         put = gives_append f g h (flat_map text_of so.messages) put.front so.put put.given;
         cut = λ _. record { message = m; framed = framed; rest = put.rest; more = put.more; whole = put.whole };
       }
@@ -177,7 +185,7 @@ module _ (b c d : Core) (f g h : Option (List ℕ)) (m : Said) (so : Flushes b c
         unwritten = said_out c;
         all = so.all;
         tail = [];
-        lawful = λ order stands. stood_lawful c (onto so.messages order) (so.stands order stands);
+        well = λ order stands. stood_well c (onto so.messages order) (so.stands order stands);
         put = subst (λ last. Gives f last (flat_map text_of so.messages ++ [])) (sym same) (subst (λ bytes. Gives f g bytes) (sym (append-nil (flat_map text_of so.messages))) so.put);
         cut = λ some. absurd (some refl);
       }
@@ -224,7 +232,7 @@ module _ (Such : Said → Type 0) (c d e : Core) (f g : Option (List ℕ)) (even
         messages = so.messages;
         such = all_front Such so.messages so.unwritten (subst (All Such) so.all such);
         tail = so.tail;
-        lawful = λ order stands. so.lawful (event ∷ order) (next order stands);
+        well = λ order stands. so.well (event ∷ order) (next order stands);
         put = so.put;
         cut = so.cut;
       }
@@ -236,7 +244,7 @@ halts_lost Such c d given event next =
       messages = [];
       such = All-nil Such;
       tail = [];
-      lawful = λ order stands. stood_lawful d (event ∷ order) (next order stands);
+      well = λ order stands. stood_well d (event ∷ order) (next order stands);
       put = gives_nothing given;
       cut = λ some. absurd (some refl);
     }
@@ -263,7 +271,7 @@ module _ (Such : Said → Type 0) (c : Core) (event : Event) (bodies : List (Lis
   stops_by halts =
       record {
         events = onto halts.messages (event ∷ []);
-        lawful = λ order stands. subst (λ behind. Lawful behind) (sym (onto-append halts.messages (event ∷ []) order)) (halts.lawful order stands);
+        well = λ order stands. subst (λ behind. GoesWell behind) (sym (onto-append halts.messages (event ∷ []) order)) (halts.well order stands);
         takes = takes_of-onto halts.messages (event ∷ []) ∙ takes;
         ended = end_of-onto halts.messages (event ∷ []) ∙ ended;
         such = writes_such halts.messages halts.such;
@@ -314,7 +322,7 @@ module _ (b c : Core) (given next : Option (List ℕ)) (keeps : (order : List Ev
   stops_flushed so =
       record {
         events = onto so.messages [];
-        lawful = λ order stands. subst (λ behind. Lawful behind) (sym (onto-append so.messages [] order)) (so.lawful order (keeps order stands));
+        well = λ order stands. subst (λ behind. GoesWell behind) (sym (onto-append so.messages [] order)) (so.well order (keeps order stands));
         takes = takes_of-onto so.messages [];
         ended = end_of-onto so.messages [];
         such = any_all (writes_of (onto so.messages []));
@@ -338,7 +346,7 @@ steps_none Such c d now keeps = record { events = []; stands = keeps; takes = re
 -- the core found no memory
 pub stops_lost : (Such : Said → Type 0) (c d : Core) (now : Told) → ((order : List Event) → StandsFor c order → StandsFor d order) → Stops Such c [] None now now
 stops_lost Such c d now keeps =
-    record { events = []; lawful = λ order stands. stood_lawful d order (keeps order stands); takes = refl; ended = refl; such = All-nil Such; tail = []; tells = tells_nothing now; cut = λ some. absurd (some refl) }
+    record { events = []; well = λ order stands. stood_well d order (keeps order stands); takes = refl; ended = refl; such = All-nil Such; tail = []; tells = tells_nothing now; cut = λ some. absurd (some refl) }
 
 -- what the core keeps of an order it kept before
 module _ (Such : Said → Type 0) (b c : Core) (bodies : List (List ℕ)) (end : Option InputEnd) (old new : Told) (keeps : (order : List Event) → StandsFor b order → StandsFor c order) where
@@ -348,7 +356,7 @@ module _ (Such : Said → Type 0) (b c : Core) (bodies : List (List ℕ)) (end :
 
   pub stops_kept : Stops Such c bodies end old new → Stops Such b bodies end old new
   stops_kept stops =
-      record { events = stops.events; lawful = λ order stands. stops.lawful order (keeps order stands); takes = stops.takes; ended = stops.ended; such = stops.such; tail = stops.tail; tells = stops.tells; cut = stops.cut }
+      record { events = stops.events; well = λ order stands. stops.well order (keeps order stands); takes = stops.takes; ended = stops.ended; such = stops.such; tail = stops.tail; tells = stops.tells; cut = stops.cut }
 
 -- what is bare is any message
 steps_any : (Such : Said → Type 0) (c d : Core) (bodies : List (List ℕ)) (end : Option InputEnd) (old new : Told) → GoesThrough Such c d bodies end old new → GoesThrough IsAny c d bodies end old new
@@ -357,7 +365,7 @@ steps_any Such c d bodies end old new steps =
 
 stops_any : (Such : Said → Type 0) (c : Core) (bodies : List (List ℕ)) (end : Option InputEnd) (old new : Told) → Stops Such c bodies end old new → Stops IsAny c bodies end old new
 stops_any Such c bodies end old new stops =
-    record { events = stops.events; lawful = stops.lawful; takes = stops.takes; ended = stops.ended; such = any_all (writes_of stops.events); tail = stops.tail; tells = stops.tells; cut = stops.cut }
+    record { events = stops.events; well = stops.well; takes = stops.takes; ended = stops.ended; such = any_all (writes_of stops.events); tail = stops.tail; tells = stops.tells; cut = stops.cut }
 
 -- steps, and others that take no body and find no end
 module _ (Such : Said → Type 0) (b c : Core) (bodies : List (List ℕ)) (end : Option InputEnd) (x y z : Told) (so : GoesThrough Such b c bodies end x y) where
@@ -382,7 +390,7 @@ module _ (Such : Said → Type 0) (b c : Core) (bodies : List (List ℕ)) (end :
   stops_then next =
       record {
         events = next.events ++ so.events;
-        lawful = λ order stands. subst (λ behind. Lawful behind) (sym (append_assoc next.events so.events order)) (next.lawful (so.events ++ order) (so.stands order stands));
+        well = λ order stands. subst (λ behind. GoesWell behind) (sym (append_assoc next.events so.events order)) (next.well (so.events ++ order) (so.stands order stands));
         takes = joined_takes next.events next.takes;
         ended = end_of-append next.events so.events next.ended ∙ so.ended;
         such = joined_such next.events next.such;
@@ -396,7 +404,7 @@ module _ (Such : Said → Type 0) (b c : Core) (bodies : List (List ℕ)) (end :
   stops_behind d keeps =
       record {
         events = so.events;
-        lawful = λ order stands. stood_lawful d (so.events ++ order) (keeps (so.events ++ order) (so.stands order stands));
+        well = λ order stands. stood_well d (so.events ++ order) (keeps (so.events ++ order) (so.stands order stands));
         takes = so.takes;
         ended = so.ended;
         such = so.such;

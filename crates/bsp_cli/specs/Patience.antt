@@ -3,7 +3,7 @@
 use Rattle.std.specs.Prelude.{◌≡◌, ◌+◌, ◌-◌, ◌++◌, ◌<◌, ◌≤◌, ℕ, suc, List, [], ◌∷◌, length, take, Contains, Some, None, slice_get}
 use Rattle.bsp_edge.specs.Course.{Course}
 use Rattle.rpc_frame.specs.Frames.{Frames}
-use Rattle.session_law.specs.AnswersAtOnce.{IsCaughtUp}
+use Rattle.session_law.specs.EachRests.{IsAtRest}
 use Rattle.session_law.specs.Order.{Event, takes_of}
 use Rattle.session_law.specs.Past.{after, status_after}
 use Rattle.session_law.specs.Verdicts.{HasVerdict}
@@ -24,9 +24,9 @@ pub record StoodAt (Holds : List Event → Type 0) (order : List Event) (read : 
 abbrev pub NoneOpen : List Event → Type 0
 NoneOpen past = (after past).requests ≡ []
 
--- what is owed at once is written
+-- what is owed at once is written, and the session rests
 abbrev pub OwesNothingAtOnce : List Event → Type 0
-OwesNothingAtOnce past = IsCaughtUp (after past)
+OwesNothingAtOnce past = IsAtRest (after past)
 
 -- ---- quiet offsets
 

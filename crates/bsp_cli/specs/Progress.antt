@@ -12,7 +12,6 @@ use Rattle.rpc_frame.specs.Limits.{stream_limit}
 use Rattle.rpc_frame.specs.declared.damage.Damage.{Damage}
 use Rattle.rpc_frame.specs.declared.damage.DamageKind.TheVariants.{Truncated}
 use Rattle.rpc_frame.specs.Damages.{HasDamage}
-use Rattle.session_law.specs.Lawful.{Lawful}
 use Rattle.session_law.specs.Order.{Event, takes_of, end_of}
 use Rattle.session_law.specs.Verdicts.{HasVerdict, IsBare}
 use Rattle.session_core.specs.Settled.{Awaits, IsAsking, IsBack, IsSettled, NeedsNothing, left_to_do}
@@ -24,7 +23,7 @@ use Rattle.bsp_cli.specs.Session.{FailedInLast, IsCut}
 use Rattle.bsp_cli.specs.Outside.{Heard, Told, ToldBy}
 use Rattle.bsp_cli.specs.Patience.{FellAt, Patient, PatientAtEnd, Prompt, WaitedLast, WaitsIdle, polls_left}
 use Rattle.bsp_cli.specs.Offsets.{IsAt, WhereTold}
-use Rattle.bsp_cli.specs.Writing.{GoesThrough, Stops}
+use Rattle.bsp_cli.specs.Writing.{GoesThrough, GoesWell, Stops}
 use Rattle.worker_pool.specs.Jobs.{JobTree}
 use Rattle.bsp_cli.specs.declared.outcome.Ending.{Ending}
 use Rattle.bsp_cli.specs.declared.outcome.Ending.TheVariants.{Border, Damaged, Failed}
@@ -125,7 +124,7 @@ pub record Progress (core : Core) (stream : Waiting) (from to : Heard) (start no
 -- the same, once the session had to stop before an end of its input
 pub record Stopped (given_end : ℕ) (from to : Heard) (start now : Told) : Type 0 where
   pub order : List Event
-  pub lawful : Lawful order
+  pub well : GoesWell order
   pub unended : end_of order ≡ None
   pub read : List ℕ
   pub consumed : Takes from.left to.left read

@@ -16,6 +16,7 @@ use Rattle.rpc_peer.specs.Said.{Said}
 use Rattle.session_law.specs.declared.InputEnd.{InputEnd}
 use Rattle.session_law.specs.declared.InputEnd.TheVariants.{Border, Damaged, Failed}
 use Rattle.session_law.specs.AnswersAll.{IsSettled}
+use Rattle.session_law.specs.EachRests.{EachRests}
 use Rattle.session_law.specs.IsFramed.{IsFramed, text_of}
 use Rattle.session_law.specs.Lawful.{Lawful}
 use Rattle.session_law.specs.Order.{Event, takes_of, writes_of, hands_of, failures_of, end_of}
@@ -121,6 +122,8 @@ FailedInLast order read taken start now = EndsInLast taken start now ⊎ WaitedL
 -- what became of the order and of the bytes that were read
 pub record Session (order : List Event) (read : List ℕ) (input : InputChange) (tree : TreeChange) (output : Change) (status taken : ℕ) (damage : Option Damage) : Type 0 where
   pub lawful : Lawful order
+  -- and goes as far as it can in each step
+  pub rests : EachRests order
   -- its takes are the frames of the bytes taken
   pub consumed : Takes input.old input.new read
   pub within : taken ≤ length read

@@ -4,6 +4,7 @@ use Rattle.std.specs.List.{All}
 use Rattle.bsp_edge.specs.Streams.{Gives}
 use Rattle.rpc_peer.specs.Said.{Said}
 use Rattle.session_law.specs.IsFramed.{text_of}
+use Rattle.session_law.specs.EachRests.{EachRests}
 use Rattle.session_law.specs.Lawful.{Lawful}
 use Rattle.session_law.specs.Order.{Event, onto, takes_of, writes_of, end_of}
 use Rattle.session_law.specs.declared.InputEnd.{InputEnd}
@@ -23,6 +24,11 @@ pub record GivesFront (old new : Option (List ℕ)) (bytes : List ℕ) : Type 0 
   pub whole : bytes ≡ front ++ rest
   pub given : Gives old new front
 
+-- the order is lawful, and each step of it goes as far as it can
+pub record GoesWell (order : List Event) : Type 0 where
+  pub lawful : Lawful order
+  pub rests : EachRests order
+
 -- the core went from one state to the next by writing messages, the next that it had to write
 pub record Flushes (c d : Core) (old new : Option (List ℕ)) : Type 0 where
   pub messages : List Said
@@ -36,7 +42,7 @@ pub record Halts (c : Core) (old new : Option (List ℕ)) : Type 0 where
   pub unwritten : List Said
   pub all : said_out c ≡ messages ++ unwritten
   pub tail : List ℕ
-  pub lawful : (order : List Event) → StandsFor c order → Lawful (onto messages order)
+  pub well : (order : List Event) → StandsFor c order → GoesWell (onto messages order)
   pub put : Gives old new (flat_map text_of messages ++ tail)
   pub cut : tail ≢ [] → IsCut tail
 
@@ -52,7 +58,7 @@ pub record HaltsAt (Such : Said → Type 0) (c : Core) (event : Event) (old new 
   pub messages : List Said
   pub such : All Such messages
   pub tail : List ℕ
-  pub lawful : (order : List Event) → StandsFor c order → Lawful (onto messages (event ∷ order))
+  pub well : (order : List Event) → StandsFor c order → GoesWell (onto messages (event ∷ order))
   pub put : Gives old new (flat_map text_of messages ++ tail)
   pub cut : tail ≢ [] → IsCut tail
 
@@ -73,7 +79,7 @@ pub record GoesThrough (Such : Said → Type 0) (c d : Core) (bodies : List (Lis
 -- the core went on by these events, and wrote at most a proper front of the next message, when it had to stop
 pub record Stops (Such : Said → Type 0) (c : Core) (bodies : List (List ℕ)) (end : Option InputEnd) (old new : Told) : Type 0 where
   pub events : List Event
-  pub lawful : (order : List Event) → StandsFor c order → Lawful (events ++ order)
+  pub well : (order : List Event) → StandsFor c order → GoesWell (events ++ order)
   pub takes : takes_of events ≡ bodies
   pub ended : end_of events ≡ end
   pub such : All Such (writes_of events)

@@ -1,5 +1,5 @@
 //! The program as a library: the words of its command line, its loop over an input, a tree of files, a crew
-//! that does jobs and an output, its notes and its exit status, over any input and output and over the real ones.
+//! that does jobs and an output, its notes and its exit status.
 //!
 //! The loop acts on all frames that were read. Where the session is idle then, it waits for more input. Else it looks
 //! whether more input is there, and where there is none it waits for an outcome of the crew. After each step it meets
@@ -14,7 +14,6 @@
 mod needs;
 mod notes;
 mod outcome;
-mod program;
 mod responder;
 mod run;
 mod serve;
@@ -24,7 +23,6 @@ mod waiting;
 mod words;
 mod writing;
 
-pub use program::run_program;
 pub use run::{Ended, run_words};
 pub use status::Status;
 pub use words::{Command, Usage, read_words};

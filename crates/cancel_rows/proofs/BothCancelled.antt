@@ -153,7 +153,7 @@ module _ (past : List Event) (lawful : EachAllowed past) (g : Given) (id : Id) (
       mid_took plain AnyBuilds both past at_start
       (record {
         up = tt;
-        go = record { first = refl; waiting = All-cons IsUnmarked waits [] refl (All-nil IsUnmarked); last = All-nil IsUnmarked };
+        go = record { one = tt; first = refl; waiting = All-cons IsUnmarked waits [] refl (All-nil IsUnmarked); last = All-nil IsUnmarked };
         last = refl;
         nulls = refl;
         started = subst (λ ms. ms ≢ []) (sym told_is) (starts_told one.course);
@@ -192,7 +192,7 @@ module _ (past : List Event) (lawful : EachAllowed past) (g : Given) (id : Id) (
       mid_took plain_second AnyBuilds first_alone second_answered answered_second
       (record {
         up = tt;
-        go = record { first = refl; waiting = All-nil IsUnmarked; last = All-nil IsUnmarked };
+        go = record { one = tt; first = refl; waiting = All-nil IsUnmarked; last = All-nil IsUnmarked };
         last = refl;
         nulls = refl;
         started = subst (λ ms. ms ≢ []) (sym told_still) (starts_told one.course);

@@ -9,3 +9,5 @@ pub mod Finishing
 pub mod AnyBuild
 pub mod Waiting
 pub mod Taking
+pub mod Between
+pub mod Resting

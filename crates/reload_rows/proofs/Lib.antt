@@ -9,3 +9,4 @@ pub mod OneReload
 pub mod Accepted
 pub mod Refused
 pub mod Waiting
+pub mod Unanswered

@@ -13,6 +13,7 @@ use Rattle.reload_rows.proofs.Telling.{may_answer, may_tell, owed, told_for_answ
 use Rattle.reload_rows.specs.OneDropped.{DropsOne, answered, list_cleared, targets_changed, tells}
 use Rattle.rpc_peer.specs.Said.{Said, result}
 use Rattle.serde_json.specs.Data.{Data}
+use Rattle.session_law.specs.AnswersFirst.{OwesNoOther}
 use Rattle.session_law.specs.Builds.{shown_by}
 use Rattle.session_law.specs.IsFramed.{IsFramed}
 use Rattle.session_law.specs.Lawful.{EachAllowed, Lawful, WriteAllowed}
@@ -33,7 +34,7 @@ module _ (past : List Event) (asked : Asked) (others : List Asked) (open_is : (a
       ap (λ (t : Table). t key.document key.target) (keeps_all past each).since
       ∙ dropped_blank (told_for_answer (after past) asked others open_is space file is value allowed) key there
 
-  module _ (unmarked : first_marked (after past).requests ≡ None) (fresh : (after past).notices ≡ []) (one : DropsOne space file (after past).table_at_hand) where
+  module _ (unmarked : first_marked (after past).requests ≡ None) (no_other : OwesNoOther (after past)) (fresh : (after past).notices ≡ []) (one : DropsOne space file (after past).table_at_hand) where
     abbrev list : Said
     list = list_cleared space file (after past).table_at_hand one
 
@@ -54,7 +55,7 @@ module _ (past : List Event) (asked : Asked) (others : List Asked) (open_is : (a
 
     list_first : IsFramed list → WriteAllowed (after past) list
     list_first framed =
-        may_tell (after past) asked others open_is space file is unmarked (codes "build/publishDiagnostics") (Some (publish_diagnostics_params_data (piece one.key None true [])))
+        may_tell (after past) asked others open_is space file is unmarked no_other (codes "build/publishDiagnostics") (Some (publish_diagnostics_params_data (piece one.key None true [])))
         (record {
           accepted = one.accepted;
           messages = all;
@@ -67,7 +68,7 @@ module _ (past : List Event) (asked : Asked) (others : List Asked) (open_is : (a
     changes_second : IsFramed changes → WriteAllowed (after behind_list) changes
     unfolding changes_said
     changes_second framed =
-        may_tell (after behind_list) asked others open_is space file is unmarked (codes "buildTarget/didChange")
+        may_tell (after behind_list) asked others open_is space file is unmarked (record { requests = no_other.requests; nulls = no_other.nulls }) (codes "buildTarget/didChange")
         (Some (did_change_params_data (record { changes = map (event_of space.root) (one.change ∷ one.changes) })))
         (record {
           accepted = one.accepted;
@@ -81,7 +82,7 @@ module _ (past : List Event) (asked : Asked) (others : List Asked) (open_is : (a
     answer_third : IsFramed (answered asked.id) → WriteAllowed (after behind_changes) (answered asked.id)
     unfolding changes_said
     answer_third framed =
-        may_answer (after behind_changes) asked others open_is space file is unmarked one.accepted
+        may_answer (after behind_changes) asked others open_is space file is unmarked (record { requests = no_other.requests; nulls = no_other.nulls }) one.accepted
         (subst (Reloads space file (after past).table_at_hand) (ap (λ told. (told ++ list ∷ []) ++ changes ∷ []) (sym fresh)) (tells_whole space file (after past).table_at_hand one))
         framed
 

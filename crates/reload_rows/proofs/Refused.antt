@@ -7,6 +7,7 @@ use Rattle.reload_rows.proofs.Telling.{by_reload, may_refuse, owed}
 use Rattle.reload_rows.specs.OneDropped.{answered}
 use Rattle.rpc_peer.specs.Said.{notification, failure}
 use Rattle.serde_json.specs.Data.{Data, null}
+use Rattle.session_law.specs.AnswersFirst.{OwesNoOther}
 use Rattle.session_law.specs.IsFramed.{IsFramed}
 use Rattle.session_law.specs.Lawful.{GoesOnOrCancels, WriteAllowed}
 use Rattle.session_law.specs.Methods.{refused_message, reloading, workspace_refused}
@@ -25,9 +26,9 @@ module _ (past : List Event) (asked : Asked) (others : List Asked) (open_is : (a
   no_workspace accepted = accepted.accepted.faultless kind name refused.fault
 
   -- It is refused for this fault.
-  pub refused_so : first_marked (after past).requests ≡ None → IsFramed (failure (Some asked.id) workspace_refused (refused_message kind name))
+  pub refused_so : first_marked (after past).requests ≡ None → OwesNoOther (after past) → IsFramed (failure (Some asked.id) workspace_refused (refused_message kind name))
       → WriteAllowed (after past) (failure (Some asked.id) workspace_refused (refused_message kind name))
-  refused_so unmarked framed = may_refuse (after past) asked others open_is space file is unmarked kind name refused framed
+  refused_so unmarked no_other framed = may_refuse (after past) asked others open_is space file is unmarked no_other kind name refused framed
 
   -- Something is told of it: a list is cleared, or changes are told.
   pub not_told_of : (method : List ℕ) (params : Option Data) → WriteAllowed (after past) (notification method params) → ⊥

@@ -10,7 +10,8 @@ use Rattle.rpc_peer.specs.OpenIds.{same_id}
 use Rattle.rpc_peer.specs.Said.{Said, notification, result, failure}
 use Rattle.serde_json.specs.Data.{Data, null}
 use Rattle.session_law.proofs.RequestLaws.{same_id_refl}
-use Rattle.session_law.proofs.WriteLaws.{if_so, owed_first}
+use Rattle.session_law.proofs.WriteLaws.{IsFree, first_free, free_by, if_so, owed_first}
+use Rattle.session_law.specs.AnswersFirst.{OwesNoOther}
 use Rattle.session_law.specs.If.{If}
 use Rattle.session_law.specs.IsFramed.{IsFramed}
 use Rattle.session_law.specs.Lawful.{GoesOnOrCancels, WriteAllowed}
@@ -19,7 +20,7 @@ use Rattle.session_law.specs.Past.{Now, standing}
 use Rattle.session_law.specs.PublishesInBuildsOnly.{ReloadsBy, ReloadsNext, TellsAs, TellsBy}
 use Rattle.session_law.specs.RefusesExactly.{IsGranted, IsRefused, IsWorkspace}
 use Rattle.session_law.specs.Reloading.{Reloads, clears, keys_dropped, tells_changes}
-use Rattle.session_law.specs.Requests.{Asked, active_as, active_of, first_marked, first_up, is_open, owed_to}
+use Rattle.session_law.specs.Requests.{Asked, active_as, active_of, first_marked, first_up, is_of_queue, is_open, owed_to}
 use Rattle.session_law.specs.ShowsCleanBuild.{ShowsFor}
 use Rattle.session_law.specs.TakesUpInOrder.{AnswersFor}
 use Rattle.session_law.specs.TasksInOrder.{TellsFor, is_of_task}
@@ -80,50 +81,58 @@ module _ (now : Now) (asked : Asked) (others : List Asked) (open_is : now.reques
     tells_so : (m : Said) → ReloadsBy asked.id space file now m → TellsBy now.requests now m
     tells_so m by = subst (λ requests. TellsBy requests now m) (sym open_is) (subst (λ v. TellsAs asked.id v now m) (sym is) by)
 
-    pub may_tell : (method : List ℕ) (params : Option Data) → ReloadsNext space file now (notification method params) → is_of_task (notification method params) ≡ false
-        → IsFramed (notification method params) → WriteAllowed now (notification method params)
-    may_tell method params next untasked framed =
-        let m = notification method params in
-        record {
-          framed = framed;
-          once = tt;
-          in_builds = tells_so m next;
-          by_marks = subst (λ o. GoesOnOrCancels o now m) (sym unmarked) (record {
-            exact = tt;
-            in_order = tt;
-            shows = subst (λ a. ShowsFor m a now) (sym none_active) tt;
-            tasks = subst (λ a. TellsFor m a now) (sym none_active) untasked;
-          });
-        }
+    -- and no other request is owed something at once
+    module _ (no_other : OwesNoOther now) where
+      all_free : IsFree now
+      all_free = free_by now asked others open_is (ap is_of_queue is) no_other
 
-    pub may_answer : IsWorkspace space.root file → Reloads space file now.table_at_hand now.notices → IsFramed (answered asked.id) → WriteAllowed now (answered asked.id)
-    may_answer accepted told framed =
-        let m = answered asked.id in
-        record {
-          framed = framed;
-          once = there;
-          in_builds = tells_so m (if_so (same_id asked.id asked.id) (Reloads space file now.table_at_hand now.notices) told);
-          by_marks = subst (λ o. GoesOnOrCancels o now m) (sym unmarked) (record {
-            exact = subst (λ o. IsGranted o null) (sym owed) (accepted, refl);
-            in_order = subst (AnswersFor m) (sym none_active) tt;
-            shows = subst (λ a. ShowsFor m a now) (sym none_active) tt;
-            tasks = subst (λ a. TellsFor m a now) (sym none_active) tt;
-          });
-        }
+      pub may_tell : (method : List ℕ) (params : Option Data) → ReloadsNext space file now (notification method params) → is_of_task (notification method params) ≡ false
+          → IsFramed (notification method params) → WriteAllowed now (notification method params)
+      may_tell method params next untasked framed =
+          let m = notification method params in
+          record {
+            framed = framed;
+            once = tt;
+            in_builds = tells_so m next;
+            by_marks = subst (λ o. GoesOnOrCancels o now m) (sym unmarked) (record {
+              first = first_free now m all_free;
+              exact = tt;
+              in_order = tt;
+              shows = subst (λ a. ShowsFor m a now) (sym none_active) tt;
+              tasks = subst (λ a. TellsFor m a now) (sym none_active) untasked;
+            });
+          }
 
-    pub may_refuse : (kind : FaultKind) (name : List ℕ) → Refused file kind name → IsFramed (failure (Some asked.id) workspace_refused (refused_message kind name))
-        → WriteAllowed now (failure (Some asked.id) workspace_refused (refused_message kind name))
-    may_refuse kind name refused framed =
-        let m = failure (Some asked.id) workspace_refused (refused_message kind name) in
-        record {
-          framed = framed;
-          once = there;
-          in_builds = tells_so m tt;
-          by_marks = subst (λ o. GoesOnOrCancels o now m) (sym unmarked) (record {
-            exact = subst (λ o. IsRefused o workspace_refused (refused_message kind name)) (sym owed)
-                (record { kind = kind; name = name; refused = refused; code_is = refl; text_is = refl });
-            in_order = tt;
-            shows = tt;
-            tasks = tt;
-          });
-        }
+      pub may_answer : IsWorkspace space.root file → Reloads space file now.table_at_hand now.notices → IsFramed (answered asked.id) → WriteAllowed now (answered asked.id)
+      may_answer accepted told framed =
+          let m = answered asked.id in
+          record {
+            framed = framed;
+            once = there;
+            in_builds = tells_so m (if_so (same_id asked.id asked.id) (Reloads space file now.table_at_hand now.notices) told);
+            by_marks = subst (λ o. GoesOnOrCancels o now m) (sym unmarked) (record {
+              first = first_free now m all_free;
+              exact = subst (λ o. IsGranted o null) (sym owed) (accepted, refl);
+              in_order = subst (AnswersFor m) (sym none_active) tt;
+              shows = subst (λ a. ShowsFor m a now) (sym none_active) tt;
+              tasks = subst (λ a. TellsFor m a now) (sym none_active) tt;
+            });
+          }
+
+      pub may_refuse : (kind : FaultKind) (name : List ℕ) → Refused file kind name → IsFramed (failure (Some asked.id) workspace_refused (refused_message kind name))
+          → WriteAllowed now (failure (Some asked.id) workspace_refused (refused_message kind name))
+      may_refuse kind name refused framed =
+          let m = failure (Some asked.id) workspace_refused (refused_message kind name) in
+          record {
+            framed = framed;
+            once = there;
+            in_builds = tells_so m tt;
+            by_marks = subst (λ o. GoesOnOrCancels o now m) (sym unmarked) (record {
+              first = first_free now m all_free;
+              exact = subst (λ o. IsRefused o workspace_refused (refused_message kind name)) (sym owed)
+                  (record { kind = kind; name = name; refused = refused; code_is = refl; text_is = refl });
+              in_order = tt;
+              shows = tt;
+              tasks = tt;
+            });
+          }

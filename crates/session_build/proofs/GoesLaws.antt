@@ -1,9 +1,9 @@
 -- Steps of a build that goes on, whatever its course: each tells something behind other messages, and they go one behind the
 -- other.
-use Rattle.std.proofs.Common.{◌≡◌, ◌++◌, ℕ, List, [], ◌∷◌, length, get_or, Bool, true, false, Option, refl, sym, subst, append_assoc}
+use Rattle.std.proofs.Common.{◌≡◌, ◌++◌, ℕ, List, [], ◌∷◌, length, get_or, Bool, true, false, Option, refl, ap, sym, subst, append_assoc}
 use Rattle.std.specs.Prelude.{Vec}
 use Rattle.std.specs.declared.alloc.Global.{Global}
-use Rattle.std.specs.List.{Contains}
+use Rattle.std.specs.List.{All, Contains}
 use Rattle.std.proofs.lemmas.List.{append-nil}
 use Rattle.std.proofs.lemmas.List.Elements.{All-append, All-cons, All-contains, All-nil}
 use Rattle.bsp_records.specs.Table.{Table}
@@ -25,7 +25,7 @@ use Rattle.session_law.proofs.ListLaws.{contains_first}
 use Rattle.session_law.specs.Builds.{build_document, build_status, has_error}
 use Rattle.session_law.specs.IsFramed.{IsFramed}
 use Rattle.session_law.specs.Tasks.{check_finishes, check_starts}
-use Rattle.session_law.specs.Verdicts.{IsBare}
+use Rattle.session_law.specs.Verdicts.{FinishesOneFirst, IsBare}
 use Rattle.session_law.specs.declared.BuildDocument.{BuildDocument}
 use Rattle.session_build.specs.Building.{IsNotice}
 use Rattle.session_build.specs.Going.{Begins, Goes, GoesBy, GoesOnBy, IsGoing, IsGoingWith, SettlesBy, TakesOut}
@@ -113,12 +113,33 @@ module _ (at : Setting) (is : IsSetting at) (old mid : Going) (job : Job) (befor
     tells =
         tells_on (finish ∷ []) settles.published.own before queued after (tells_one finish before queued finishes framed (finish_told _))
         (published_tells table shown (build_document at.workspace.value job.pair) at.origin.value fact.checked.list.items queued after settles.failed settles.published);
+    one = record {
+      number = at.number;
+      check = job.number;
+      target = job.target;
+      status = build_status (has_error (record { document = build_document at.workspace.value job.pair; list = fact.checked.list.items }));
+      others = settles.published.own;
+      are = refl;
+      bare = λ k d h. bare_publication (get_or settles.published.own k d) (settles.published.notices k d h);
+    };
     more = settles.more;
     on = λ g told kept going.
         finish_goes at is g old mid job told queued after made keys later table shown none fact is_fact kept framed sized settles made_is going;
   }
 
 -- ---- one behind the other
+
+-- where one check finishes first, it still does so with more behind, by which none does
+pub one_first : (before later : List Said) → FinishesOneFirst before → All IsBare later → FinishesOneFirst (before ++ later)
+one_first before later first bare = record {
+  number = first.number;
+  check = first.check;
+  target = first.target;
+  status = first.status;
+  others = first.others ++ later;
+  are = ap (λ ms. ms ++ later) first.are;
+  bare = All-append IsBare first.others later first.bare bare;
+}
 
 -- nothing was done yet
 pub goes_start : (at : Setting) (cache : Cache) (a : Going) (before : List Said) (keys : List (List ℕ)) (table : Table) → Goes at cache a a before before keys keys table table
@@ -152,6 +173,7 @@ pub outcome_goes : (at : Setting) → IsSetting at → (cache : Cache) (number :
 outcome_goes at is cache number work fact old without finished new job first then last early mid late t u v space made takes others number_is one other = record {
   own = one.own ++ other.own;
   tells = tells_on one.own other.own first then last one.tells other.tells;
+  one = one_first one.own other.own one.one other.bare;
   more = λ m k is. other.more m k (one.more m k is);
   on = λ g told remembers found going.
       (let among : Contains old.jobs.items job =

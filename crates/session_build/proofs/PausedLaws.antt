@@ -22,6 +22,7 @@ use Rattle.session_build.specs.declared.building.Went.TheVariants.{On, Ended}
 use Rattle.session_build.specs.declared.going.Going.{Going}
 use Rattle.session_build.specs.declared.going.Job.{Job}
 use Rattle.session_build.specs.declared.kept.Kept.{Kept}
+use Rattle.session_build.proofs.GoesLaws.{one_first}
 use Rattle.session_build.proofs.LateLaws.{remembers_with}
 use Rattle.session_build.proofs.RestLaws.{has_begun, left_small, some_runs}
 use Rattle.session_build.proofs.TellLaws.{tells_none, tells_on}
@@ -113,6 +114,7 @@ pub gone_on : (b : Build) (number : ℕ) (work : CheckTree) (later : Going) (wen
 gone_on b number work later went old mid new table shown first then last cache late one paused = record {
   own = one.own ++ paused.own;
   tells = tells_on one.own paused.own first then last one.tells paused.tells;
+  one = one_first one.own paused.own one.one paused.bare;
   more = subst (Extends old.keys) (sym paused.same) one.more;
   goes = λ g told at_work remembers found.
       (let going = at_work.going in

@@ -10,20 +10,23 @@ use Rattle.std.proofs.lemmas.Map.Steps.{length-le_from_distinct_below}
 use Rattle.std.proofs.lemmas.Map.Views.{Contains-from_any}
 use Rattle.bsp_records.specs.Table.{Table}
 use Rattle.build_checks.specs.Numbers.{AreNumbersOf}
-use Rattle.build_checks.specs.Stand.{world_of}
+use Rattle.build_checks.specs.Stand.{modules_of, settled_of, taken_of, world_of}
 use Rattle.build_checks.specs.Work.{IsWorkOf}
 use Rattle.build_rules.specs.World.{World}
 use Rattle.rpc_peer.specs.Said.{Said}
-use Rattle.session_law.proofs.ListLaws.{contains_first, contains_map_back}
+use Rattle.session_law.proofs.ListLaws.{contains_first, contains_map, contains_map_back}
 use Rattle.session_law.specs.Course.{Given}
+use Rattle.session_law.specs.EachRests.{AwaitsCheck}
 use Rattle.session_build.specs.AtWork.{IsAtWork, IsOwnWork, IsWork, Rests, Runs, RunsOn, begun_in}
-use Rattle.session_build.specs.Going.{IsAmong, IsJob, IsOrdered, IsSound, all_left}
+use Rattle.session_build.specs.Going.{IsAmong, IsJob, IsOrdered, IsSound, all_left, all_running, running_of}
 use Rattle.session_build.specs.Setting.{IsSetting}
+use Rattle.session_build.specs.Stages.{IsRunning}
 use Rattle.session_build.specs.declared.building.Build.{Build}
 use Rattle.session_build.specs.declared.going.Going.{Going}
 use Rattle.session_build.specs.declared.going.Job.{Job}
 use Rattle.session_build.specs.declared.setting.Setting.{Setting}
 use Rattle.session_build.proofs.JobLaws.{same_pair}
+use Rattle.session_build.proofs.StageLaws.{none_here}
 use Rattle.target_graph.specs.Workspace.{pairs_of}
 use Rattle.target_graph.specs.declared.target.Target.{Target}
 use Rattle.worker_pool.specs.Jobs.{CheckTree}
@@ -99,3 +102,23 @@ work_stays old new finished rests on number pair runs work own = record { is = �
     by : (q : ℕ) (keys : List (List ℕ)) → AreNumbersOf keys new.going.checks → (Runs old number q × (number ≢ finished)) ⊎ (begun_in old < number) → IsWorkOf (world_of new.going.checks) q work
     by q keys are (inl was) = subst (λ (w : World). IsWorkOf w q work) (sym on.checks.world) (own.is q was.0 keys (on.checks.views keys are))
     by q keys are (inr late) = absurd (omega (arith, late, begun, runs.number_is))
+
+-- ---- the course that it rests on
+
+-- on each course it waits for a check
+pub awaits_check : (g : Given) (b : Build) (told : List Said) (keys : List (List ℕ)) (table : Table) → IsAtWork g b told keys table → AwaitsCheck g told
+awaits_check g b told keys table at_work =
+    let going = at_work.going in
+    let some = at_work.rests.some in
+    let job : Job = some.2.job in
+    let running : IsRunning g going.stage (running_of job) =
+    All-contains (IsRunning g going.stage) (all_running b.going.jobs.items) (running_of job) going.begun.each (contains_map running_of b.going.jobs.items job some.2.there) in
+    record {
+      stage = going.stage;
+      course = going.on.course;
+      none_next =
+          none_here g going.stage (world_of b.going.checks) (modules_of b.going.checks) (taken_of b.going.checks) (settled_of b.going.checks) going.agrees at_work.rests.none;
+      document = running.document;
+      number = job.number;
+      runs = running.runs;
+    }

@@ -27,7 +27,7 @@ use Rattle.session_law.specs.Course.{Given, AreGiven}
 use Rattle.session_law.specs.History.{Told, world_in}
 use Rattle.session_law.specs.Requests.{Active}
 use Rattle.session_law.specs.ShowsOldOrNew.{ShowsEither}
-use Rattle.session_law.specs.Verdicts.{IsBare}
+use Rattle.session_law.specs.Verdicts.{FinishesOneFirst, IsBare}
 use Rattle.target_graph.specs.Workspace.{Space}
 use Rattle.worker_pool.specs.Jobs.{CheckTree}
 
@@ -117,10 +117,12 @@ pub record HasBegun (space : Space) (request : BuildRequest) (entries : Entries)
   pub more : Extends old.keys new.keys
   pub begins : (id : Id) (builds : List Told) → Remembers space builds old → IsBegun (requested space request entries id) builds table went own shown new
 
--- The build went on by what the check of this work found, whatever course it was on.
+-- The build went on by what the check of this work found, whatever course it was on. First that check finishes, and no other
+-- does.
 pub record HasGoneOn (b : Build) (number : ℕ) (work : CheckTree) (went : Went) (old new : Kept) (table shown : Table) (before after : List Said) : Type 0 where
   pub own : List Said
   pub tells : TellsBehind own before after
+  pub one : FinishesOneFirst own
   pub more : Extends old.keys new.keys
   pub goes : (g : Given) (told : List Said) → IsAtWork g b told old.keys table → Remembers g.active.build.space g.earlier old → IsWork g b number work
       → IsWith g went (told ++ own) shown new

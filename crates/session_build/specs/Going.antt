@@ -30,7 +30,7 @@ use Rattle.session_law.specs.Course.{Given, Stage}
 use Rattle.session_law.specs.History.{Told, HasChecked}
 use Rattle.session_law.specs.IsFramed.{IsFramed}
 use Rattle.session_law.specs.Tasks.{check_starts}
-use Rattle.session_law.specs.Verdicts.{IsBare}
+use Rattle.session_law.specs.Verdicts.{FinishesOneFirst, IsBare}
 use Rattle.worker_pool.specs.Jobs.{CheckTree}
 
 abbrev pub running_of : Job → Running
@@ -152,6 +152,7 @@ pub record Goes (at : Setting) (cache : Cache) (old new : Going) (before after :
 pub record GoesBy (at : Setting) (job : Job) (fact : FactTree) (old new : Going) (before after : List Said) (keys later : List (List ℕ)) (table shown : Table) : Type 0 where
   pub own : List Said
   pub tells : TellsBehind own before after
+  pub one : FinishesOneFirst own
   pub more : Extends keys later
   pub on : (g : Given) (told : List Said) → IsKept keys (world_of old.checks) job.pair fact → IsGoingWith g at old (job ∷ old.jobs.items) told keys table
       → IsGoing g at new (told ++ own) later shown
@@ -168,6 +169,7 @@ pub record IsAmong (jobs : List Job) (number pair : ℕ) : Type 0 where
 pub record GoesOnBy (at : Setting) (cache : Cache) (number : ℕ) (work : CheckTree) (old new : Going) (before after : List Said) (keys later : List (List ℕ)) (table shown : Table) : Type 0 where
   pub own : List Said
   pub tells : TellsBehind own before after
+  pub one : FinishesOneFirst own
   pub more : Extends keys later
   pub on : (g : Given) (told : List Said) → RemembersChecks at.workspace.value g.earlier cache keys
       → ((pair : ℕ) → IsAmong old.jobs.items number pair → IsWorkOf (world_of old.checks) pair work)

@@ -5,9 +5,10 @@ use Rattle.rpc_peer.specs.Said.{Said}
 use Rattle.build_messages.specs.Outgoing.{outgoing_said}
 use Rattle.build_messages.specs.declared.outgoing.Outgoing.{Outgoing}
 use Rattle.session_law.specs.IsFramed.{IsFramed}
+use Rattle.session_build.proofs.RestLaws.{awaits_check}
 use Rattle.session_core.proofs.EndMarks.{ended_marked, marked_none}
 use Rattle.session_core.specs.Settled.{IsSettled}
-use Rattle.session_core.specs.Standing.{HeadFits, HeadGoesOn, IsAlive, IsQuiet, IsUpHead, IsUpPhase, PhaseFits, Recalls, StandsFor, status_of}
+use Rattle.session_core.specs.Standing.{HeadFits, HeadGoesOn, IsAlive, IsQuiet, IsUpHead, IsUpPhase, PhaseFits, Recalls, StandsFor, Whole, status_of}
 use Rattle.session_core.specs.State.{asked_of, plain_of, rest_of, said_out, waiting_of}
 use Rattle.session_core.specs.Taking.{WaitsBehind as WaitsBehindHead}
 use Rattle.session_core.specs.declared.head.Head.{Head}
@@ -17,17 +18,20 @@ use Rattle.session_core.specs.declared.session.Core.{Core}
 use Rattle.session_verdicts.specs.declared.verdicts.Queued.{Queued}
 use Rattle.session_law.proofs.OpenLaws.{GoOn, GoesOn, unmarked}
 use Rattle.session_law.proofs.RequestLaws.{IsUnmarked}
-use Rattle.session_law.proofs.TakeLaws.{HasStarted, IsUp, WaitsBehind, caught_up}
+use Rattle.session_law.proofs.AwaitLaws.{FirstAwaits, head_awaits}
+use Rattle.session_law.proofs.TakeLaws.{HasStarted, WaitsBehind, caught_up}
 use Rattle.session_law.specs.AnswersAll.{IsSettled as AnswersAll}
 use Rattle.session_law.specs.AnswersAtOnce.{IsCaughtUp}
+use Rattle.session_law.specs.EachRests.{EachRests, HeadAwaits, IsAtRest}
 use Rattle.session_law.specs.Course.{Course, Given, Stage, starts, known, begins, checked}
 use Rattle.session_law.specs.Lawful.{EachAllowed, Lawful}
-use Rattle.session_law.specs.Open.{First, IsFirst, Mid, none, Open}
+use Rattle.session_law.specs.Open.{First, IsFirst, IsUp, Mid, none, Open}
 use Rattle.session_law.specs.Order.{Event, onto, write}
 use Rattle.session_law.specs.Past.{Now, after, status_after}
 use Rattle.session_law.specs.Open.{Plain}
 use Rattle.session_law.specs.Requests.{Asked}
 use Rattle.session_queue.specs.declared.waiting.Waiting.{Waiting}
+use Rattle.task_stream.specs.Showing.{shows}
 
 -- what is open where this is at the head, and nothing is answered now
 abbrev pub open_with : Core → First → Open
@@ -135,18 +139,53 @@ head_behind core (Some head) queue now first fits behind = phase_behind core hea
 go_on : (core : Core) (order : List Event) (whole : IsWhole core order) → IsSettled (rest_of core) → GoOn (open_with core whole.first)
 go_on core order whole settled =
     record {
+      one = tt;
       first = head_goes core core.head (after order) whole.first whole.fits settled.sound.goes_on;
       waiting = All-map IsUnmarked asked_of core.queue settled.sound.waiting;
       last = All-nil IsUnmarked;
     }
 
 -- what is owed at once is answered in an order of a core that waits for no tree
-pub is_caught_up : (core : Core) (order : List Event) → IsQuiet core → IsAlive core → IsSettled (rest_of core) → IsUpHead core.head → StandsFor core order → IsCaughtUp (after order)
+is_caught_up : (core : Core) (order : List Event) → IsQuiet core → IsAlive core → IsSettled (rest_of core) → IsUpHead core.head → StandsFor core order → IsCaughtUp (after order)
 is_caught_up core order quiet alive settled up stands =
     let whole = is_whole core order quiet alive stands in
     let ready = head_up core core.head (after order) whole.first whole.fits up in
     caught_up (open_with core whole.first) (after order) whole.mid.open_is ready.0 (go_on core order whole settled) refl refl ready.1
     (head_behind core core.head core.queue (after order) whole.first whole.fits settled.behind)
+
+-- ---- the build at the head waits for a check
+
+phase_awaits : (core : Core) (head : Head) (phase : Phase) (now : Now) (first : First) → PhaseFits core head phase now first → IsUpPhase phase → FirstAwaits first now
+phase_awaits core head (phases.Opening root) now first fits up = absurd up
+phase_awaits core head phases.Rereading now first fits up = absurd up
+phase_awaits core head (phases.Planned plan) now first fits up = absurd up
+phase_awaits core head (phases.Built b origin) now first fits up =
+    subst (λ f. FirstAwaits f now) (sym fits.is) (awaits_check fits.given b now.notices core.kept.keys (shows core.shown) fits.at_work)
+
+first_awaits : (core : Core) (head : Option Head) (now : Now) (first : First) → HeadFits core head now first → IsUpHead head → FirstAwaits first now
+first_awaits core None now first fits up = subst (λ f. FirstAwaits f now) (sym fits) tt
+first_awaits core (Some head) now first fits up = phase_awaits core head head.phase now first fits.1 up
+
+whole_awaits : (core : Core) (order : List Event) → IsQuiet core → IsUpHead core.head → WaitsBehindHead core.head core.queue → Whole core [] [] order → HeadAwaits (after order).requests (after order)
+whole_awaits core order quiet up behind whole =
+    let said : said_out core ≡ [] = ap (map outgoing_said) quiet in
+    let fits : HeadFits core core.head (after order) whole.first = subst (λ messages. HeadFits core core.head (after (onto messages order)) whole.first) said whole.fits in
+    let mid : Mid (plain_of core) (Recalls core) (open_with core whole.first) order =
+    subst (λ messages. Mid (plain_of core) (Recalls core) (open_with core whole.first) (onto messages order)) said whole.mid in
+    head_awaits (open_with core whole.first) (after order) mid.open_is refl (first_awaits core core.head (after order) whole.first fits up)
+    (head_behind core core.head core.queue (after order) whole.first fits behind)
+
+-- so it rests as a body is taken, or the input is found to have ended
+pub rests_behind : (core : Core) → IsQuiet core → IsUpHead core.head → WaitsBehindHead core.head core.queue → (order : List Event) → Whole core [] [] order → EachRests order
+    → HeadAwaits (after order).requests (after order) × EachRests order
+rests_behind core quiet up behind order whole rests = (whole_awaits core order quiet up behind whole, rests)
+
+pub is_at_rest : (core : Core) (order : List Event) → IsQuiet core → IsAlive core → IsSettled (rest_of core) → IsUpHead core.head → StandsFor core order → IsAtRest (after order)
+is_at_rest core order quiet alive settled up stands =
+    record {
+      caught_up = is_caught_up core order quiet alive settled up stands;
+      awaits = whole_awaits core order quiet up settled.behind (stands.whole alive);
+    }
 
 -- ---- the end of a session
 

@@ -1,19 +1,25 @@
 -- No check that was made finishes by an answer, nor by what is told as a build begins or is cancelled.
-use Rattle.std.proofs.Common.{◌≡◌, ◌++◌, ◌∙◌, List, [], ◌∷◌, Result, map, ap, sym, subst}
+use Rattle.std.proofs.Common.{◌≡◌, ◌++◌, ◌∙◌, inl, ℕ, List, [], ◌∷◌, Option, Result, map, refl, ap, sym, subst}
 use Rattle.std.specs.Prelude.{OnOk}
 use Rattle.std.specs.List.{All}
 use Rattle.std.proofs.lemmas.List.Elements.{All-append, All-cons, All-nil}
 use Rattle.std.proofs.lemmas.Result.{on_ok_weaker}
 use Rattle.rpc_peer.specs.Said.{Said}
+use Rattle.rpc_peer.specs.declared.message.Id.{Id}
 use Rattle.build_messages.specs.Outgoing.{outgoing_said}
 use Rattle.build_messages.specs.declared.outgoing.Outgoing.{Outgoing}
-use Rattle.session_core.specs.Moving.{StaysBare}
+use Rattle.session_build.proofs.GoesLaws.{one_first}
+use Rattle.session_build.specs.declared.building.Went.{Went}
+use Rattle.session_build.specs.declared.building.Went.TheVariants.{On, Ended}
+use Rattle.session_core.specs.Handing.{HasWent}
+use Rattle.session_core.specs.Moving.{FinishesAtMostOne, StaysBare}
 use Rattle.session_core.specs.Standing.{IsQuiet}
 use Rattle.session_core.specs.State.{said_out}
 use Rattle.session_core.specs.declared.session.Core.{Core}
+use Rattle.session_law.specs.Builds.{build_said}
 use Rattle.session_law.specs.Past.{notice_in}
 use Rattle.session_law.specs.Tasks.{finish_said}
-use Rattle.session_law.specs.Verdicts.{IsBare}
+use Rattle.session_law.specs.Verdicts.{FinishesOneFirst, IsBare}
 
 not_none : (m : Said) (rest : List Said) → m ∷ rest ≡ [] → ⊥
 not_none m rest same = cc
@@ -27,7 +33,10 @@ one_bare : (m : Said) → notice_in m ≡ [] → All IsBare (m ∷ [])
 one_bare m none = All-cons IsBare m [] (bare_answer m none) (All-nil IsBare)
 
 pub bare_behind : (old new : Core) (messages : List Said) → said_out new ≡ said_out old ++ messages → All IsBare messages → StaysBare old new
-bare_behind old new messages said bare = record { is = λ before. subst (λ ms. All IsBare ms) (sym said) (All-append IsBare (said_out old) messages before bare) }
+bare_behind old new messages said bare = record {
+  is = λ before. subst (λ ms. All IsBare ms) (sym said) (All-append IsBare (said_out old) messages before bare);
+  one = λ before. subst FinishesOneFirst (sym said) (one_first (said_out old) messages before bare);
+}
 
 pub bare_one : (old new : Core) (m : Said) → said_out new ≡ said_out old ++ m ∷ [] → notice_in m ≡ [] → StaysBare old new
 bare_one old new m said none = bare_behind old new (m ∷ []) said (one_bare m none)
@@ -41,13 +50,29 @@ pub told_bare : (before after own : List Said) → before ≡ [] → after ≡ b
 told_bare before after own none are bare = subst (λ ms. All IsBare ms) (sym (are ∙ ap (λ ms. ms ++ own) none)) bare
 
 pub bare_same : (old new : Core) → new.out ≡ old.out → StaysBare old new
-bare_same old new same = record { is = subst (λ ms. All IsBare ms) (sym (ap (λ out. map outgoing_said out.items) same)) }
+bare_same old new same =
+    let said : said_out new ≡ said_out old = ap (λ out. map outgoing_said out.items) same in
+    record { is = subst (λ ms. All IsBare ms) (sym said); one = subst FinishesOneFirst (sym said) }
 
 pub bare_on : (a b c : Core) → StaysBare a b → StaysBare b c → StaysBare a c
-bare_on a b c first later = record { is = λ before. later.is (first.is before) }
+bare_on a b c first later = record { is = λ before. later.is (first.is before); one = λ before. later.one (first.one before) }
 
 pub bare_quiet : (old new : Core) → IsQuiet old → StaysBare old new → All IsBare (said_out new)
 bare_quiet old new quiet stays = stays.is (subst (λ (items : List Outgoing). All IsBare (map outgoing_said items)) (sym quiet) (All-nil IsBare))
+
+-- where a build goes on, or ends and is answered, by what a check found
+pub went_one : (old new : Core) (id : Id) (number : ℕ) (origin : Option (List ℕ)) (went : Went) (told : List Said) → IsQuiet old → HasWent old new id number origin went told
+    → FinishesOneFirst told → FinishesOneFirst (said_out new)
+unfolding build_said
+went_one old new id number origin (On b) told quiet goes one =
+    subst FinishesOneFirst (sym (goes.1 ∙ ap (λ (items : List Outgoing). map outgoing_said items ++ told) quiet)) one
+went_one old new id number origin (Ended failed remains) told quiet goes one =
+    let answer = build_said id origin failed in
+    subst FinishesOneFirst (sym (goes.1 ∙ ap (λ (items : List Outgoing). map outgoing_said items ++ (told ++ answer ∷ [])) quiet)) (one_first told (answer ∷ []) one (one_bare answer refl))
+
+-- where nothing is said, no check finishes
+pub quiet_none : (core : Core) → IsQuiet core → FinishesAtMostOne (said_out core)
+quiet_none core quiet = inl (subst (λ (items : List Outgoing). All IsBare (map outgoing_said items)) (sym quiet) (All-nil IsBare))
 
 -- ---- what a call promises of it
 

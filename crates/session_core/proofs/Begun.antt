@@ -29,6 +29,7 @@ use Rattle.session_core.specs.State.{plain_of, said_out, waiting_of}
 use Rattle.session_core.specs.declared.head.Head.{Head}
 use Rattle.session_core.specs.declared.head.Phase.TheVariants as phases
 use Rattle.session_core.specs.declared.session.Core.{Core}
+use Rattle.session_law.proofs.AnewLaws.{course_anew, ended_anew}
 use Rattle.session_law.proofs.CoursePublishes.{course_publishes, ended_publishes}
 use Rattle.session_law.proofs.MidLaws.{mid_works}
 use Rattle.session_core.proofs.Moving.{onto-push}
@@ -91,11 +92,11 @@ module _ (old new : Core) (head : Head) (is : old.head ≡ Some head) (quiet : I
     works : (g : Given) → AreGiven g → g.active ≡ active → g.earlier ≡ now.builds → g.table ≡ shows old.shown
         → Mid (plain_of old) (Recalls old) (record o { first = working g false }) (hand handed ∷ order)
     works g are active_is earlier_is table_is =
-        mid_works (plain_of old) (Recalls old) o order mid head.id head.number (building (build_in space plan)) first_is handed paths (wants_building old head plan phase space planned.in_force paths planned.within wanted) held
+        mid_works (plain_of old) (Recalls old) o order mid head.id head.number (building (build_in space plan)) first_is refl refl handed paths (wants_building old head plan phase space planned.in_force paths planned.within wanted) held
         (build_in space plan) entries handed_is g refl are active_is earlier_is table_is
 
     go : (g : Given) → GoOn (record o { first = working g false })
-    go g = record { first = refl; waiting = goes; last = All-nil IsUnmarked }
+    go g = record { one = tt; first = refl; waiting = goes; last = All-nil IsUnmarked }
 
     said_is : (messages : List Said) → said_out new ≡ said_out old ++ messages → onto (said_out new) (hand handed ∷ order) ≡ onto messages (hand handed ∷ order)
     said_is messages said = ap (λ ms. onto ms (hand handed ∷ order)) (said ∙ ap (λ (items : List Outgoing). map outgoing_said items ++ messages) quiet)
@@ -128,7 +129,7 @@ module _ (old new : Core) (head : Head) (is : old.head ≡ Some head) (quiet : I
 
       told_mid : Mid (plain_of rested) (Recalls old) (record o { first = working g false }) (onto begins.begun.own past)
       told_mid =
-          tells_on (plain_of old) (Recalls old) (record o { first = working g false }) past on_course (go g) g refl [] begins.begun.own refl begins.begun.tells.framed begins.begun.tells.notices (shows new.shown)
+          tells_on (plain_of old) (Recalls old) (record o { first = working g false }) past on_course refl refl (go g) g refl [] begins.begun.own refl (course_anew it.0.going.on.course) begins.begun.tells.framed begins.begun.tells.notices (shows new.shown)
           (λ document target. ap (λ (t : Table). t document target) (sym begun.table_is)) it.0.going.on.kept
           (Tells.settling it.0.going.stage it.0.going.on.course) (course_publishes begun.are it.0.going.on.course)
 
@@ -209,7 +210,7 @@ module _ (old new : Core) (head : Head) (is : old.head ≡ Some head) (quiet : I
 
       ended_mid : Mid (plain_of answered) (Recalls answered) (record o { first = none }) (write (build_answer of.active.id of.active.build ends.ended.findings) ∷ onto begins.begun.own past)
       ended_mid =
-          ends_on (plain_of old) (Recalls old) (record o { first = working of false }) past (works of ends.are active_so earlier_so table_so) (go of) of refl [] begins.begun.own refl
+          ends_on (plain_of old) (Recalls old) (record o { first = working of false }) past (works of ends.are active_so earlier_so table_so) refl refl (go of) of refl [] begins.begun.own refl (ended_anew ends.ended)
           begins.begun.tells.framed begins.begun.tells.notices (shows new.shown) (λ document target. ap (λ (t : Table). t document target) (sym table_so))
           (λ document target. ends.shown document target ∙ ap (λ (t : Table). table_behind begins.begun.own t document target) (sym ends.table_is)) ends.ended (ended_publishes ends.are ends.ended) ends.shows
           (subst IsFramed (sym answer_is) (framed_build head.id plan.origin failed named begins.short)) (Recalls answered) keeps

@@ -16,6 +16,7 @@ use Rattle.session_core.specs.declared.head.Phase.{Phase}
 use Rattle.session_core.specs.declared.head.Phase.TheVariants as phases
 use Rattle.session_core.specs.declared.session.Core.{Core}
 use Rattle.session_verdicts.specs.declared.verdicts.Queued.{Queued}
+use Rattle.session_law.specs.EachRests.{EachRests}
 use Rattle.session_law.specs.Lawful.{EachAllowed}
 use Rattle.session_law.specs.Open.{IsOpen, IsWaiting, Mid, none}
 use Rattle.session_law.specs.Order.{Event, onto}
@@ -36,21 +37,22 @@ whole_noting core dead order whole =
     }
 
 pub stands_behind : {T E : Type 0} (old acted : Core) (event : Event) (result : Result T E) (dead : Bool) → dead ≡ is_err result → OnOk result (Acts old acted event)
-    → OnErr result (ActsInVain old acted event) → IsAlive old → (order : List Event) → StandsFor old order → StandsFor (record acted { dead = dead }) (event ∷ order)
-stands_behind old acted event (Ok done) dead noted acts lost alive order stands =
+    → OnErr result (ActsInVain old acted event) → ((order : List Event) → Whole old [] [] order → EachRests order → EachRests (event ∷ order)) → IsAlive old
+    → (order : List Event) → StandsFor old order → StandsFor (record acted { dead = dead }) (event ∷ order)
+stands_behind old acted event (Ok done) dead noted acts lost rests alive order stands =
     let whole : Whole acted [] [] (event ∷ order) = acts order (stands.whole alive) in
-    record { each = whole.mid.each; whole = λ found. whole_noting acted dead (event ∷ order) whole }
-stands_behind old acted event (Err error) dead noted acts lost alive order stands =
-    record { each = lost order (stands.whole alive); whole = λ found. absurd (true≢false (sym noted ∙ found)) }
+    record { each = whole.mid.each; rests = rests order (stands.whole alive) stands.rests; whole = λ found. whole_noting acted dead (event ∷ order) whole }
+stands_behind old acted event (Err error) dead noted acts lost rests alive order stands =
+    record { each = lost order (stands.whole alive); rests = rests order (stands.whole alive) stands.rests; whole = λ found. absurd (true≢false (sym noted ∙ found)) }
 
 -- the same where nothing came in
 pub stands_still : {T E : Type 0} (old acted : Core) (result : Result T E) (dead : Bool) → dead ≡ is_err result → OnOk result (Carries old acted) → OnErr result (Loses old acted)
     → IsAlive old → (order : List Event) → StandsFor old order → StandsFor (record acted { dead = dead }) order
 stands_still old acted (Ok done) dead noted carries loses alive order stands =
     let whole : Whole acted [] [] order = carries order (stands.whole alive) in
-    record { each = whole.mid.each; whole = λ found. whole_noting acted dead order whole }
+    record { each = whole.mid.each; rests = stands.rests; whole = λ found. whole_noting acted dead order whole }
 stands_still old acted (Err error) dead noted carries loses alive order stands =
-    record { each = loses order (stands.whole alive); whole = λ found. absurd (true≢false (sym noted ∙ found)) }
+    record { each = loses order (stands.whole alive); rests = stands.rests; whole = λ found. absurd (true≢false (sym noted ∙ found)) }
 
 -- the same where it was asked what is needed
 pub stands_asked : (old : Core) (asked : Core) (dead : Bool) → asked ≡ record old { tree = asked.tree; drains = asked.drains; remains = asked.remains; given = asked.given }
@@ -59,6 +61,7 @@ stands_asked old asked dead same was order stands =
     subst (λ (core : Core). StandsFor (record core { dead = dead }) order) (sym same)
     (record {
       each = stands.each;
+      rests = stands.rests;
       whole = λ found.
           let whole = stands.whole (was found) in
           let now : Core = record old { tree = asked.tree; drains = asked.drains; remains = asked.remains; given = asked.given; dead = dead } in
@@ -136,6 +139,7 @@ pub stands_new : (core : Core) → core.out.items ≡ [] → core.queue ≡ [] �
 stands_new core out queue head shown workspace closed status taken empty =
     record {
       each = subst (λ (items : List Outgoing). EachAllowed (onto (map outgoing_said items) [])) (sym out) tt;
+      rests = tt;
       whole = λ found. record {
         first = none;
         fits = subst (λ (h : Option Head). HeadFits core h (after (onto (said_out core) [])) none) (sym head) refl;

@@ -29,10 +29,11 @@ use Rattle.session_core.specs.declared.head.Head.{Head}
 use Rattle.session_core.specs.declared.head.Phase.TheVariants as phases
 use Rattle.session_core.specs.declared.jobs.Awaiting.{Awaiting}
 use Rattle.session_core.specs.declared.session.Core.{Core}
+use Rattle.session_law.proofs.AnewLaws.{outcome_anew}
 use Rattle.session_law.proofs.CoursePublishes.{course_publishes, ended_publishes}
 use Rattle.session_law.proofs.OpenLaws.{GoOn}
 use Rattle.session_law.proofs.WorkLaws.{first_so, build_answer}
-use Rattle.session_law.proofs.WrittenLaws.{all_noticed}
+use Rattle.session_law.proofs.WrittenLaws.{StartsAnew, all_noticed}
 use Rattle.session_law.specs.Builds.{build_said, table_behind}
 use Rattle.session_law.specs.Course.{Given, Tells}
 use Rattle.session_law.specs.IsFramed.{IsFramed}
@@ -98,7 +99,7 @@ module _ (old new : Core) (it : Awaiting) (is : old.head ≡ Some (awaiting_head
       }
 
   go : (f : Given) → GoOn (record o { first = working f false })
-  go f = record { first = refl; waiting = goes; last = All-nil IsUnmarked }
+  go f = record { one = tt; first = refl; waiting = goes; last = All-nil IsUnmarked }
 
   first_here : IsFirst (working g false) now (mid.open_is).head
   first_here = subst (λ f. IsFirst f now (mid.open_is).head) fits.1.is mid.open_is.first_is
@@ -108,6 +109,10 @@ module _ (old new : Core) (it : Awaiting) (is : old.head ≡ Some (awaiting_head
 
   said_is : (messages : List Said) → said_out new ≡ said_out old ++ messages → onto (said_out new) order ≡ onto messages order
   said_is messages said = ap (λ ms. onto ms order) (said ∙ ap (λ (items : List Outgoing). map outgoing_said items ++ messages) quiet)
+
+  -- what it tells goes on with no list
+  anew : StartsAnew own
+  anew = outcome_anew own went_by.gone.one
 
   shown_before : (document target : List ℕ) → shows old.shown document target ≡ table_behind now.notices g.table document target
   shown_before = at_work.going.on.kept
@@ -134,7 +139,7 @@ module _ (old new : Core) (it : Awaiting) (is : old.head ≡ Some (awaiting_head
 
     told_mid : Mid (plain_of rested) (Recalls old) (record o { first = working g false }) (onto own order)
     told_mid =
-        tells_on (plain_of old) (Recalls old) (record o { first = working g false }) order (course g first_here) (go g) g refl now.notices own refl went_by.gone.tells.framed went_by.gone.tells.notices
+        tells_on (plain_of old) (Recalls old) (record o { first = working g false }) order (course g first_here) refl refl (go g) g refl now.notices own refl anew went_by.gone.tells.framed went_by.gone.tells.notices
         (shows new.shown) shown_before on.0.going.on.kept (Tells.settling on.0.going.stage on.0.going.on.course) (course_publishes given_so.are on.0.going.on.course)
 
     recalls : Recalls rested (after (onto own order)).builds
@@ -209,7 +214,7 @@ module _ (old new : Core) (it : Awaiting) (is : old.head ≡ Some (awaiting_head
 
     ended_mid : Mid (plain_of answered) (Recalls answered) (record o { first = none }) (write (build_answer of.active.id of.active.build ends.ended.findings) ∷ onto own order)
     ended_mid =
-        ends_on (plain_of old) (Recalls old) (record o { first = working of false }) order (course of first_of) (go of) of refl now.notices own refl
+        ends_on (plain_of old) (Recalls old) (record o { first = working of false }) order (course of first_of) refl refl (go of) of refl now.notices own refl anew
         went_by.gone.tells.framed went_by.gone.tells.notices (shows new.shown) (λ document target. shown_before document target ∙ ap (λ (t : Table). table_behind now.notices t document target) (sym ends.table_is))
         (λ document target. ends.shown document target ∙ ap (λ (t : Table). table_behind (now.notices ++ own) t document target) (sym ends.table_is)) ends.ended (ended_publishes ends.are ends.ended) ends.shows
         (subst IsFramed (sym answer_is) (framed_build it.id it.origin failed fits.0 short)) (Recalls answered) keeps

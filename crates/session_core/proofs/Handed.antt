@@ -52,10 +52,10 @@ module _ (old new : Core) (head : Head) (is : old.head ≡ Some head) (quiet : I
     mid_opened : (order : List Event) → Whole old [] [] order → Mid (plain_of old) (Recalls old) opened (hand handed ∷ order)
     mid_opened order whole =
         mid_handed (plain_of old) (Recalls old) (with_first old whole.first [] []) order (subst (Mid (plain_of old) (Recalls old) (with_first old whole.first [] [])) (onto_is order) whole.mid)
-        head.id head.number v (first_is order whole) handed paths wants held asks
+        head.id head.number v (first_is order whole) refl refl handed paths wants held asks
 
     pub runs : RunsOn opened
-    runs = record { first = tt; waiting = goes; last = All-nil IsUnmarked }
+    runs = record { one = tt; first = tt; waiting = goes; last = All-nil IsUnmarked }
 
     -- it is answered
     pub answers_hand : ((order : List Event) → Whole old [] [] order → MidOf taken_out opened (hand handed ∷ order) → MidOf new (record opened { first = none }) (hand handed ∷ order)) → new.head ≡ None → new.queue ≡ old.queue → Acts old new (hand handed)
@@ -115,7 +115,7 @@ refuses_hand old new head v handed nothing refused goes answers_it =
     subst (λ w. Moves (record old { head = None }) new (record { first = owing head.id head.number w; waiting = waiting_of old; last = []; nulls = [] }) (record { first = none; waiting = waiting_of old; last = []; nulls = [] }))
     (sym (nothing ∙ refused))
     (answers_it (record { first = owing head.id head.number unreadable; waiting = waiting_of old; last = []; nulls = [] }) head.number unreadable refl
-    (record { first = tt; waiting = goes; last = All-nil IsUnmarked }) tt (refl, refl))
+    (record { one = tt; first = tt; waiting = goes; last = All-nil IsUnmarked }) tt (refl, refl))
 
 -- where nothing is written behind the hand nothing is lost, whichever request is at the head
 pub hand_lost : (old new : Core) (handed : Option Entries) (paths : List (List ℕ)) → IsSettled (rest_of old) → IsQuiet old → HeadWants old.head paths → IfSome handed (AreHeld paths) → new.out.items ≡ old.out.items

@@ -57,7 +57,7 @@ goes_first (owing id number v) goes = tt
 goes_first (working g marked) goes = goes
 
 pub goes : (o : Open) → RunsOn o → GoOn o
-goes o runs = record { first = goes_first o.first runs.first; waiting = runs.waiting; last = runs.last }
+goes o runs = record { one = runs.one; first = goes_first o.first runs.first; waiting = runs.waiting; last = runs.last }
 
 same_or : (b : Bool) → (b || false) ≡ b
 same_or true = refl

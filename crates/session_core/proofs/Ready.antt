@@ -7,7 +7,7 @@ use Rattle.session_build.specs.AtWork.{IsAtWork}
 use Rattle.build_messages.specs.Outgoing.{outgoing_said}
 use Rattle.build_messages.specs.declared.outgoing.Outgoing.{Outgoing}
 use Rattle.session_core.proofs.Moving.{says_null}
-use Rattle.session_core.proofs.Settling.{fits_on, runs_first}
+use Rattle.session_core.proofs.Settling.{fits_on, runs_first, up_first}
 use Rattle.session_core.specs.Acting.{ActsInVain}
 use Rattle.session_verdicts.specs.Judging.{answer_unread}
 use Rattle.session_core.specs.Marking.{marked, marked_head}
@@ -25,7 +25,7 @@ use Rattle.session_verdicts.specs.declared.verdicts.Queued.{Queued}
 use Rattle.session_law.proofs.TakeLaws as law
 use Rattle.session_law.proofs.MidLaws.{Rests, mid_ended}
 use Rattle.session_law.specs.Course.{Course, Given, Stage, begins, checked, known, starts}
-use Rattle.session_law.specs.Open.{First, Mid, Open, working}
+use Rattle.session_law.specs.Open.{First, IsUp, Mid, Open, working}
 use Rattle.session_law.specs.Order.{Event, ends, onto}
 use Rattle.session_law.specs.Past.{Now, after, end_status, nulls_for_end}
 use Rattle.session_law.specs.Requests.{Asked, marked_where}
@@ -119,18 +119,18 @@ module _ (core : Core) (order : List Event) (ready : IsReady core) (whole : Whol
   fits = subst (λ past. HeadFits core core.head (after past) whole.first) (onto_is order) whole.fits
 
   by_phase : (head : Head) (phase : Phase) → IsUpHead (Some (record head { phase = phase })) → PhaseFits core head phase (after order) whole.first → (head.cancelled ≡ false)
-      → law.IsUp whole.first × (Rattle.session_law.proofs.OpenLaws.GoesOn whole.first × (law.HasStarted whole.first (after order) × law.WaitsBehind whole.first (waiting_of core)))
+      → IsUp whole.first × (Rattle.session_law.proofs.OpenLaws.GoesOn whole.first × (law.HasStarted whole.first (after order) × law.WaitsBehind whole.first (waiting_of core)))
   by_phase head (phases.Opening root) up it go = absurd up
   by_phase head phases.Rereading up it go = absurd up
   by_phase head (phases.Planned plan) up it go = absurd up
   by_phase head (phases.Built b origin) up working_is go =
-      subst (λ first. law.IsUp first × (Rattle.session_law.proofs.OpenLaws.GoesOn first × (law.HasStarted first (after order) × law.WaitsBehind first (waiting_of core)))) (sym working_is.is)
+      subst (λ first. IsUp first × (Rattle.session_law.proofs.OpenLaws.GoesOn first × (law.HasStarted first (after order) × law.WaitsBehind first (waiting_of core)))) (sym working_is.is)
       (tt, (go, (told_some working_is.given working_is.at_work.going.stage (after order).notices working_is.at_work.going.on.course, tt)))
 
   by_head : (head : Option Head) → IsUpHead head → HeadFits core head (after order) whole.first → HeadGoesOn head → WaitsBehind head core.queue
-      → law.IsUp whole.first × (Rattle.session_law.proofs.OpenLaws.GoesOn whole.first × (law.HasStarted whole.first (after order) × law.WaitsBehind whole.first (waiting_of core)))
+      → IsUp whole.first × (Rattle.session_law.proofs.OpenLaws.GoesOn whole.first × (law.HasStarted whole.first (after order) × law.WaitsBehind whole.first (waiting_of core)))
   by_head None up fits go behind =
-      subst (λ first. law.IsUp first × (Rattle.session_law.proofs.OpenLaws.GoesOn first × (law.HasStarted first (after order) × law.WaitsBehind first (waiting_of core)))) (sym fits)
+      subst (λ first. IsUp first × (Rattle.session_law.proofs.OpenLaws.GoesOn first × (law.HasStarted first (after order) × law.WaitsBehind first (waiting_of core)))) (sym fits)
       (tt, (tt, (tt, ap (map asked_of) behind)))
   by_head (Some head) up fits go behind = by_phase head head.phase up fits.1 go
 
@@ -139,7 +139,7 @@ module _ (core : Core) (order : List Event) (ready : IsReady core) (whole : Whol
       let all = by_head core.head ready.up fits ready.goes_on.head ready.behind in
       record {
         up = all.0;
-        go = record { first = all.1.0; waiting = ready.goes_on.waiting; last = All-nil IsUnmarked };
+        go = record { one = tt; first = all.1.0; waiting = ready.goes_on.waiting; last = All-nil IsUnmarked };
         last = refl;
         nulls = refl;
         started = all.1.1.0;
@@ -176,7 +176,7 @@ module _ (old new : Core) (code : ℤ) (said : said_out new ≡ said_out old ++ 
       let before : Now = after (onto (said_out old) order) in
       let past : Now = after (onto (said_out new) order) in
       let o : Open = with_first old whole.first [] (code ∷ later) in
-      let runs : RunsOn o = record { first = runs_first old old.head before whole.first up goes.head whole.fits; waiting = goes.waiting; last = All-nil IsUnmarked } in
+      let runs : RunsOn o = record { one = up_first old old.head before whole.first up whole.fits; first = runs_first old old.head before whole.first up goes.head whole.fits; waiting = goes.waiting; last = All-nil IsUnmarked } in
       let head : new.head ≡ old.head = ap (λ (core : Core). core.head) same in
       let queue : new.queue ≡ old.queue = ap (λ (core : Core). core.queue) same in
       record {

@@ -13,7 +13,7 @@ use Rattle.serde_json.specs.declared.value.Value.{Value}
 use Rattle.rpc_peer.specs.declared.message.Id.{Id}
 use Rattle.serde_json.specs.Data.{Data}
 use Rattle.session_core.proofs.Ready.{fits, mid, null_whole, open_now, IsReady}
-use Rattle.session_core.proofs.Settling.{fits_on, runs_first}
+use Rattle.session_core.proofs.Settling.{fits_on, runs_first, up_first}
 use Rattle.session_core.proofs.Taken.{counted, taken_each, whole_again, whole_failure, whole_nothing, whole_request, whole_result}
 use Rattle.session_core.specs.Acting.{ActsOn, ActsOnInVain, LosesAs, ServesAs, WaitsAsLast, WaitsInVain, is_head, is_open_in}
 use Rattle.session_verdicts.specs.Judging.{Fits, answer_unread, closes}
@@ -266,6 +266,7 @@ module _ (old new : Core) (same : new ≡ record old { out = new.out; closed = n
       let past : Now = after (onto (said_out new) order) in
       let o : Open = with_first old whole.first (asking_for id number v ∷ []) [] in
       let runs : RunsOn o = record {
+        one = up_first old old.head before whole.first up whole.fits;
         first = runs_first old old.head before whole.first up goes.head whole.fits;
         waiting = goes.waiting;
         last = All-cons IsUnmarked (asking_for id number v) [] refl (All-nil IsUnmarked);

@@ -17,7 +17,7 @@ use Rattle.session_core.specs.declared.session.Core.{Core}
 use Rattle.session_verdicts.specs.declared.verdicts.Queued.{Queued}
 use Rattle.session_law.proofs.OpenLaws.{all_left, all_right}
 use Rattle.session_law.specs.Lawful.{EachAllowed}
-use Rattle.session_law.specs.Open.{First, Open}
+use Rattle.session_law.specs.Open.{First, IsUp, Open}
 use Rattle.session_law.specs.Order.{onto}
 use Rattle.build_messages.specs.Outgoing.{outgoing_said}
 use Rattle.build_messages.specs.declared.outgoing.Outgoing.{Outgoing}
@@ -133,6 +133,16 @@ runs_first core (Some head) now first up goes fits = by head.phase up fits.1
     by phases.Rereading up it = absurd up
     by (phases.Planned plan) up it = absurd up
     by (phases.Built b origin) up it = subst HeadRunsOn (sym it.is) goes
+
+pub up_first : (core : Core) (head : Option Head) (now : Now) (first : First) → IsUpHead head → HeadFits core head now first → IsUp first
+up_first core None now first up fits = subst IsUp (sym fits) tt
+up_first core (Some head) now first up fits = by head.phase up fits.1
+  where
+    by : (phase : Phase) → IsUpPhase phase → PhaseFits core head phase now first → IsUp first
+    by (phases.Opening root) up it = absurd up
+    by phases.Rereading up it = absurd up
+    by (phases.Planned plan) up it = absurd up
+    by (phases.Built b origin) up it = subst IsUp (sym it.is) tt
 
 -- where the head goes on, those that wait are settled
 pub settles_whole : (old new : Core) → IsUpHead old.head → HeadGoesOn old.head → Settles old new → KeepsNotices old new → BesideQueue old new → SettlesAll old new

@@ -1,5 +1,5 @@
 -- A request that waits is taken up: it is a build that waits for its documents, or it is refused.
-use Rattle.std.proofs.Common.{◌≡◌, ℕ, List, [], ◌∷◌, map, false, All, Option, Some, None, refl, ap, sym, ◌∙◌, subst, true≢false}
+use Rattle.std.proofs.Common.{◌≡◌, ℕ, ℤ, List, [], ◌∷◌, map, false, All, Option, Some, None, refl, ap, sym, ◌∙◌, subst, true≢false}
 use Rattle.std.specs.Prelude.{is_some}
 use Rattle.std.proofs.lemmas.List.Elements.{All-head, All-nil, All-tail}
 use Rattle.rpc_peer.specs.Said.{IsId}
@@ -20,7 +20,7 @@ use Rattle.session_verdicts.specs.declared.verdicts.Reason.{Reason}
 use Rattle.session_law.proofs.MidLaws.{mid_up}
 use Rattle.session_law.specs.Lawful.{EachAllowed}
 use Rattle.session_law.specs.Methods.{Call, Found, Verdict, all_found, unknown_at, found_build, found_clean, found_from, taken_in, to_build, to_reload, to_clean}
-use Rattle.session_law.specs.Open.{Mid, Open, Plain, none, owing}
+use Rattle.session_law.specs.Open.{First, IsOneDue, Mid, Open, Plain, none, owing}
 use Rattle.session_law.specs.Order.{Event, onto}
 use Rattle.session_law.specs.Past.{after}
 use Rattle.session_law.specs.Requests.{Asked}
@@ -45,6 +45,10 @@ taken_refused (Some space) (to_build targets origin) reason fits = found_refused
 taken_refused (Some space) to_reload reason fits = absurd fits
 taken_refused (Some space) (to_clean targets) reason fits = cleaned_refused (Some space) space (found_from space 0 targets) reason fits
 
+-- nothing else is owed at once
+one_due : (first : First) (last : List Asked) (nulls : List ℤ) → last ≡ [] → nulls ≡ [] → IsOneDue first last nulls
+one_due first last nulls none_last none_null = subst (λ l. IsOneDue first l nulls) (sym none_last) (subst (λ ns. IsOneDue first [] ns) (sym none_null) tt)
+
 -- the request comes to the head
 comes : (core : Core) (waiting : Waiting Queued) (o : Open) (rest : List Asked) (order : List Event) → o.first ≡ none → o.waiting ≡ asked_of waiting ∷ rest → RunsOn o → MidOf core o order
     → MidOf core (record o { first = owing waiting.id waiting.number (taken_in core.workspace (queued_call waiting.call)); waiting = rest }) order
@@ -54,7 +58,7 @@ comes core waiting o rest order first waits runs mid =
 
 pub takes_plan : (old new : Core) (waiting : Waiting Queued) (plan : Plan) → IsId waiting.id → IsPlanOf old.workspace (taken_in old.workspace (queued_call waiting.call)) plan
     → Plans old new waiting.id waiting.number plan → IsTakenUp old new waiting
-takes_plan old new waiting plan named of plans o rest order first waits runs mid =
+takes_plan old new waiting plan named of plans o rest order first waits last nulls runs mid =
     let workspace : new.workspace ≡ old.workspace = ap (λ (core : Core). core.workspace) plans in
     let plain : plain_of new ≡ plain_of old = ap plain_of plans in
     let kept : new.kept ≡ old.kept = ap (λ (core : Core). core.kept) plans in
@@ -75,7 +79,7 @@ takes_plan old new waiting plan named of plans o rest order first waits runs mid
 
 pub takes_reread : (old new : Core) (waiting : Waiting Queued) → IsId waiting.id → IsRereadOf old.workspace (taken_in old.workspace (queued_call waiting.call))
     → Rereads old new waiting.id waiting.number → IsTakenUp old new waiting
-takes_reread old new waiting named of rereads o rest order first waits runs mid =
+takes_reread old new waiting named of rereads o rest order first waits last nulls runs mid =
     let workspace : new.workspace ≡ old.workspace = ap (λ (core : Core). core.workspace) rereads in
     let plain : plain_of new ≡ plain_of old = ap plain_of rereads in
     let kept : new.kept ≡ old.kept = ap (λ (core : Core). core.kept) rereads in
@@ -96,28 +100,28 @@ takes_reread old new waiting named of rereads o rest order first waits runs mid 
 -- a cleaning is answered as it is taken up
 pub takes_cleaning : (old new : Core) (waiting : Waiting Queued) (targets : List ℕ) → IsCleaningOf old.workspace (taken_in old.workspace (queued_call waiting.call)) targets
     → Cleans old new waiting.id targets → new.head ≡ None → IsTakenUp old new waiting
-takes_cleaning old new waiting targets of cleans gone o rest order first waits runs mid =
+takes_cleaning old new waiting targets of cleans gone o rest order first waits last nulls runs mid =
     let v : Verdict = taken_in old.workspace (queued_call waiting.call) in
     let up : Open = record o { first = owing waiting.id waiting.number v; waiting = rest } in
     record {
       first = none;
       fits = subst (λ (h : Option Head). HeadFits new h (after (onto (said_out new) order)) none) (sym gone) refl;
       mid = cleans up waiting.number of.space of.in_force (ap (owing waiting.id waiting.number) of.is)
-          (record { first = tt; waiting = All-tail IsUnmarked (asked_of waiting) rest (subst (All IsUnmarked) waits runs.waiting); last = runs.last })
+          (record { one = one_due (owing waiting.id waiting.number v) o.last o.nulls last nulls; first = tt; waiting = All-tail IsUnmarked (asked_of waiting) rest (subst (All IsUnmarked) waits runs.waiting); last = runs.last })
           order (comes old waiting o rest order first waits runs mid);
     }
 
 pub takes_refusal : (old new : Core) (waiting : Waiting Queued) (reason : Reason) → Fits (taken_in old.workspace (queued_call waiting.call)) (answers.Refused reason)
     → ((o : Open) (number : ℕ) (v : Verdict) → o.first ≡ owing waiting.id number v → RunsOn o → IsOwedFirst old.workspace v → Fits v (answers.Refused reason) → Moves old new o (record o { first = none }))
     → new.head ≡ None → IsTakenUp old new waiting
-takes_refusal old new waiting reason fits answered gone o rest order first waits runs mid =
+takes_refusal old new waiting reason fits answered gone o rest order first waits last nulls runs mid =
     let v : Verdict = taken_in old.workspace (queued_call waiting.call) in
     let up : Open = record o { first = owing waiting.id waiting.number v; waiting = rest } in
     record {
       first = none;
       fits = subst (λ (h : Option Head). HeadFits new h (after (onto (said_out new) order)) none) (sym gone) refl;
       mid = answered up waiting.number v refl
-          (record { first = tt; waiting = All-tail IsUnmarked (asked_of waiting) rest (subst (All IsUnmarked) waits runs.waiting); last = runs.last })
+          (record { one = one_due (owing waiting.id waiting.number v) o.last o.nulls last nulls; first = tt; waiting = All-tail IsUnmarked (asked_of waiting) rest (subst (All IsUnmarked) waits runs.waiting); last = runs.last })
           (taken_refused old.workspace (queued_call waiting.call) reason fits) fits order (comes old waiting o rest order first waits runs mid);
     }
 
@@ -133,8 +137,8 @@ module _ (x y : Core) (waiting : Waiting Queued) (queue : List (Waiting Queued))
       let nothing : whole.first ≡ none = subst (λ (h : Option Head). HeadFits x h (after (onto (said_out x) order)) whole.first) none_there whole.fits in
       let o : Open = with_first x none [] [] in
       let mid : MidOf x o order = subst (λ f. MidOf x (with_first x f [] []) order) nothing whole.mid in
-      let runs : RunsOn o = record { first = tt; waiting = goes.waiting; last = All-nil IsUnmarked } in
-      let has : HasTaken y o (map asked_of queue) order = taken o (map asked_of queue) order refl waits_are runs mid in
+      let runs : RunsOn o = record { one = tt; first = tt; waiting = goes.waiting; last = All-nil IsUnmarked } in
+      let has : HasTaken y o (map asked_of queue) order = taken o (map asked_of queue) order refl waits_are refl refl runs mid in
       record {
         first = has.first;
         fits = has.fits;

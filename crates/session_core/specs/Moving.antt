@@ -1,7 +1,7 @@
 -- Steps of a core: which requests it may answer, and what a step leaves as it is.
-use Rattle.std.specs.Prelude.{◌≡◌, ℕ, ℤ, List, true, false, Option, Some, None}
+use Rattle.std.specs.Prelude.{◌≡◌, ◌⊎◌, ℕ, ℤ, List, true, false, Option, Some, None}
 use Rattle.std.specs.List.{All}
-use Rattle.rpc_peer.specs.Said.{IsId}
+use Rattle.rpc_peer.specs.Said.{IsId, Said}
 use Rattle.rpc_peer.specs.declared.message.Id.{Id}
 use Rattle.session_build.specs.declared.building.Build.{Build}
 use Rattle.session_core.specs.declared.head.Head.{Head}
@@ -16,9 +16,9 @@ use Rattle.session_law.specs.Order.{Event, onto}
 use Rattle.session_law.specs.Past.{after}
 use Rattle.session_queue.specs.declared.waiting.Waiting.{Waiting}
 use Rattle.session_law.specs.Methods.{Verdict, opening, reloading, answering, closing, refusal}
-use Rattle.session_law.specs.Open.{First, Open, none, owing, working}
+use Rattle.session_law.specs.Open.{First, IsOneDue, Open, none, owing, working}
 use Rattle.session_law.specs.Requests.{Asked}
-use Rattle.session_law.specs.Verdicts.{IsBare}
+use Rattle.session_law.specs.Verdicts.{FinishesOneFirst, IsBare}
 use Rattle.target_graph.specs.Workspace.{Space}
 
 -- no request is to be cancelled
@@ -31,6 +31,7 @@ HeadRunsOn (owing id number v) = Unit {0}
 HeadRunsOn (working g marked) = marked ≡ false
 
 pub record RunsOn (o : Open) : Type 0 where
+  pub one : IsOneDue o.first o.last o.nulls
   pub first : HeadRunsOn o.first
   pub waiting : All IsUnmarked o.waiting
   pub last : All IsUnmarked o.last
@@ -63,6 +64,11 @@ pub record KeepsNeeds (old new : Core) : Type 0 where
 -- no check that was made finishes by what it says more
 pub record StaysBare (old new : Core) : Type 0 where
   pub is : All IsBare (said_out old) → All IsBare (said_out new)
+  pub one : FinishesOneFirst (said_out old) → FinishesOneFirst (said_out new)
+
+-- at most one check that was made finishes by these messages
+abbrev pub FinishesAtMostOne : List Said → Type 0
+FinishesAtMostOne messages = All IsBare messages ⊎ FinishesOneFirst messages
 
 -- these parts of a core stay
 pub record Beside (old new : Core) : Type 0 where

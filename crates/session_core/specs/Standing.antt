@@ -16,6 +16,7 @@ use Rattle.session_core.specs.declared.head.Phase.{Phase}
 use Rattle.session_core.specs.declared.head.Phase.TheVariants as phases
 use Rattle.session_core.specs.declared.session.Core.{Core}
 use Rattle.session_law.specs.Course.{Given}
+use Rattle.session_law.specs.EachRests.{EachRests}
 use Rattle.session_law.specs.History.{Told}
 use Rattle.session_law.specs.Lawful.{EachAllowed}
 use Rattle.session_law.specs.Methods.{asking, building, rereading}
@@ -83,6 +84,7 @@ pub record Whole (core : Core) (last : List Asked) (nulls : List ℤ) (order : L
 -- A core that found no memory keeps a lawful order, and promises no more of it.
 pub record Keeps (core : Core) (order : List Event) : Type 0 where
   pub each : EachAllowed (onto (said_out core) order)
+  pub rests : EachRests order
   pub whole : core.dead ≡ false → Whole core [] [] order
 
 abbrev pub StandsFor : Core → List Event → Type 0

@@ -44,7 +44,8 @@ pub record HasTaken (core : Core) (o : Open) (rest : List Asked) (order : List E
 
 abbrev pub IsTakenUp : Core → Core → Waiting Queued → Type 0
 IsTakenUp old new waiting =
-    (o : Open) (rest : List Asked) (order : List Event) → o.first ≡ none → o.waiting ≡ asked_of waiting ∷ rest → RunsOn o → MidOf old o order → HasTaken new o rest order
+    (o : Open) (rest : List Asked) (order : List Event) → o.first ≡ none → o.waiting ≡ asked_of waiting ∷ rest → o.last ≡ [] → o.nulls ≡ [] → RunsOn o → MidOf old o order
+    → HasTaken new o rest order
 
 -- nothing waits but behind a head
 abbrev pub WaitsBehind : Option Head → List (Waiting Queued) → Type 0

@@ -2,7 +2,8 @@ ghost use Rattle.std.specs.Prelude.{◌≡◌, ◌≢◌, ◌≤◌, ◌<◌, �
 ghost use Rattle.session_core.specs.Building.{TookBuild};
 ghost use Rattle.session_core.specs.Settled.{Awaits, IsAsking, IsBack, IsNeeded, IsSettled, NeedsNothing, left_to_do};
 ghost use Rattle.session_core.specs.Standing.{Carries, IsAlive, IsQuiet, IsUpHead, Loses};
-ghost use Rattle.session_core.specs.State.{rest_of};
+ghost use Rattle.session_core.specs.Moving.{FinishesAtMostOne};
+ghost use Rattle.session_core.specs.State.{rest_of, said_out};
 ghost use Rattle.worker_pool.specs.Jobs.{JobTree, check_work, plain_check};
 ghost use Rattle.worker_pool.specs.Outcomes.{IsDone};
 ghost use Rattle.worker_pool.specs.Plain.{plain_job, plain_work};
@@ -77,6 +78,7 @@ impl Core {
             → left_to_do (rest_of self.new) < left_to_do (rest_of self.old)) }
         ensures no_more { OnOk result (left_to_do (rest_of self.new) ≤ left_to_do (rest_of self.old)) }
         ensures found { OnOk result (IsAlive self.old) }
+        ensures one { OnOk result (FinishesAtMostOne (said_out self.new)) }
         ensures status { self.new.status ≡ self.old.status }
         ensures drains { self.new.drains ≡ self.old.drains }
     {

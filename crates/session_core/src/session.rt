@@ -73,6 +73,7 @@ impl Core {
     ghost use Rattle.std.specs.Prelude.{◌≡◌, ◌≢◌, ◌≤◌, ◌<◌, ◌∷◌, [], ◌↔◌, ℕ, List, None, IfNone, IfOk, IfSome, IsTrue, OnErr, OnOk};
     ghost use Rattle.std.specs.List.{All};
     ghost use Rattle.build_messages.specs.Outgoing.{outgoing_said};
+    ghost use Rattle.session_core.specs.Moving.{FinishesAtMostOne};
     ghost use Rattle.session_core.specs.Settled.{Awaits, DrainsCancelled, IsAsking, IsBack, IsIdle, IsNeeded, IsSettled, NeedsNothing, Suits, left_to_do};
     ghost use Rattle.session_core.specs.Standing.{GoesOn, HeadRests, IsAlive, IsQuiet, IsUpHead, StandsFor, left_to_write, status_of};
     ghost use Rattle.session_core.specs.State.{handed_of, rest_of, said_out};
@@ -191,6 +192,8 @@ impl Core {
         ensures alive { OnOk result (IsAlive self.new) }
         ensures dead { OnErr result (¬ IsAlive self.new) }
         ensures found { OnOk result (IsAlive self.old) }
+        // At most one check that was made finishes by it.
+        ensures one { OnOk result (FinishesAtMostOne (said_out self.new)) }
         ensures status { status_of self.new ≡ status_of self.old }
         ensures drains { self.new.drains ≡ self.old.drains }
     {

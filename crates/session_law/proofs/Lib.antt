@@ -16,9 +16,11 @@ pub mod RequestLaws
 pub mod ReloadLaws
 pub mod WriteLaws
 pub mod WrittenLaws
+pub mod AnewLaws
 pub mod OpenLaws
 pub mod MoveLaws
 pub mod WorkLaws
 pub mod TakeLaws
+pub mod AwaitLaws
 pub mod CoursePublishes
 pub mod MidLaws

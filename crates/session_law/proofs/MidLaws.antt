@@ -13,10 +13,10 @@ use Rattle.target_graph.specs.Workspace.{Space}
 use Rattle.session_law.proofs.MoveLaws.{answered_null, answers_first, answers_last, answers_null, builds_first, builds_last, builds_waiting, cancelled_waiting, cancels_waiting, failure_first, failure_last, granted_first, last_granted, nothing_granted, owes, refuses_first, refuses_last, result_first, result_last}
 use Rattle.session_law.proofs.OpenLaws.{GoOn, GoesOn, comes_first, comes_up, waits_behind}
 use Rattle.session_law.proofs.RequestLaws.{IsUnmarked}
-use Rattle.session_law.proofs.TakeLaws.{HasStarted, IsUp, MayAsk, WaitsBehind, all_marks, caught_up, handed_owing, handed_working, marked_head, may_hand, took_end}
+use Rattle.session_law.proofs.TakeLaws.{HasStarted, MayAsk, WaitsBehind, all_marks, caught_up, handed_owing, handed_working, marked_head, may_hand, took_end}
 use Rattle.session_law.proofs.WorkLaws.{answered, build_answers, build_cancelled, build_cancels, build_tells, builds_answered, first_so, granted_answered, build_answer}
 use Rattle.session_law.proofs.WriteLaws.{is_built, is_telling, untelling}
-use Rattle.session_law.proofs.WrittenLaws.{IsNotice, PublishesOf, noticed}
+use Rattle.session_law.proofs.WrittenLaws.{IsNotice, PublishesOf, StartsAnew, noticed}
 use Rattle.session_law.specs.Builds.{Shows, build_said, build_status, cancelled_said, has_error, table_behind}
 use Rattle.session_law.specs.Cancelling.{IsCancelledBy}
 use Rattle.session_law.specs.CancelsForCause.{call_cancelled, refused_cancelled}
@@ -25,7 +25,7 @@ use Rattle.session_law.specs.History.{Told}
 use Rattle.session_law.specs.IsFramed.{IsFramed}
 use Rattle.session_law.specs.Lawful.{AreHeld, EachAllowed, WriteAllowed}
 use Rattle.session_law.specs.Methods.{Build, Call, Verdict, queued, building, due_in, null_message, to_build, to_reload, to_clean}
-use Rattle.session_law.specs.Open.{IsOpen, Mid, Open, Plain, none, owing, working, asking_for, plain_now}
+use Rattle.session_law.specs.Open.{IsOpen, IsUp, Mid, Open, Plain, none, owing, working, asking_for, plain_now}
 use Rattle.session_law.specs.Order.{Event, ends, hand, onto, take, write}
 use Rattle.session_law.specs.Past.{Now, after, by_event, cleaned_by, closes, end_status, exit_status, force_by, nulls_for_end}
 use Rattle.session_law.specs.RefusesExactly.{IsGranted, IsRefused}
@@ -204,10 +204,10 @@ module _ (p : Plain) (R : List Told → Type 0) (o : Open) (order : List Event) 
       ∙ ((λ i. record (plain_now now) { closed = or_false now.closed i }) ∙ mid.plain_is)
 
   -- it tells these messages behind those that it told
-  pub mid_tells : (g : Given) → o.first ≡ working g false → GoOn o → (told own : List Said) → now.notices ≡ told → Tells g (told ++ own) → PublishesOf g (told ++ own)
+  pub mid_tells : (g : Given) → o.first ≡ working g false → o.last ≡ [] → o.nulls ≡ [] → GoOn o → (told own : List Said) → now.notices ≡ told → StartsAnew own → Tells g (told ++ own) → PublishesOf g (told ++ own)
       → All IsFramed own → All IsNotice own → Mid (record p { table = table_behind own p.table }) R o (onto own order)
-  mid_tells g first go told own since tells publishes framed notices =
-      let wrote = build_tells o order mid.open_is g first go mid.each told own since tells publishes framed notices in
+  mid_tells g first last nulls go told own since starts tells publishes framed notices =
+      let wrote = build_tells o order mid.open_is g first last nulls go mid.each told own since starts tells publishes framed notices in
       record {
         each = wrote.each;
         plain_is = ap plain_now wrote.now_is ∙ (λ i. record (mid.plain_is i) { table = table_behind own (mid.plain_is i).table });
@@ -216,16 +216,16 @@ module _ (p : Plain) (R : List Told → Type 0) (o : Open) (order : List Event) 
       }
 
   -- it is answered once it told all
-  pub mid_answers : (g : Given) → o.first ≡ working g false → GoOn o → (ended : HasEnded g now.notices) → All (Shows p.table) ended.findings
+  pub mid_answers : (g : Given) → o.first ≡ working g false → o.last ≡ [] → o.nulls ≡ [] → GoOn o → (ended : HasEnded g now.notices) → All (Shows p.table) ended.findings
       → IsFramed (build_answer g.active.id g.active.build ended.findings)
       → (Q : List Told → Type 0) → (R now.builds → Q (record { active = g.active; notices = now.notices; cleaned = [] } ∷ now.builds))
       → Mid p Q (record o { first = none }) (write (build_answer g.active.id g.active.build ended.findings) ∷ order)
   unfolding build_said
-  mid_answers g first go ended shows framed Q remembers =
+  mid_answers g first last nulls go ended shows framed Q remembers =
       let value = compile_result_data (record { origin_id = g.active.build.origin; status_code = build_status (list_any has_error ended.findings) }) in
       let table_is : now.table ≡ p.table = ap (λ (q : Plain). q.table) mid.plain_is in
       record {
-        each = (build_answers o now mid.open_is g first go ended (subst (λ t. All (Shows t) ended.findings) (sym table_is) shows) framed, mid.each);
+        each = (build_answers o now mid.open_is g first last nulls go ended (subst (λ t. All (Shows t) ended.findings) (sym table_is) shows) framed, mid.each);
         plain_is = answered_plain g false first value;
         open_is = answered o now mid.open_is g false first value;
         builds_are = subst Q (sym (builds_answered o now mid.open_is g false first value)) (remembers mid.builds_are);
@@ -266,11 +266,11 @@ module _ (p : Plain) (R : List Told → Type 0) (o : Open) (order : List Event) 
 
   -- ---- the tree answers
 
-  module _ (id : Id) (number : ℕ) (v : Verdict) (first : o.first ≡ owing id number v) (handed : Option Entries) (paths : List (List ℕ)) (wants : Wants v paths) (held : IfSome handed (AreHeld paths)) where
+  module _ (id : Id) (number : ℕ) (v : Verdict) (first : o.first ≡ owing id number v) (last : o.last ≡ []) (nulls : o.nulls ≡ []) (handed : Option Entries) (paths : List (List ℕ)) (wants : Wants v paths) (held : IfSome handed (AreHeld paths)) where
     pub mid_handed : MayAsk v → Mid p R (record o { first = owing id number (handed_over handed v) }) (hand handed ∷ order)
     mid_handed asks =
         record {
-          each = (may_hand o now mid.open_is id number v first handed paths wants held, mid.each);
+          each = (may_hand o now mid.open_is id number v first last nulls handed paths wants held, mid.each);
           plain_is = mid.plain_is;
           open_is = handed_owing o now mid.open_is id number v first handed asks;
           builds_are = mid.builds_are;
@@ -282,7 +282,7 @@ module _ (p : Plain) (R : List Told → Type 0) (o : Open) (order : List Event) 
     mid_works build entries handed_is g asks given active earlier table =
         let table_is : now.table ≡ p.table = ap (λ (q : Plain). q.table) mid.plain_is in
         record {
-          each = (may_hand o now mid.open_is id number v first handed paths wants held, mid.each);
+          each = (may_hand o now mid.open_is id number v first last nulls handed paths wants held, mid.each);
           plain_is = mid.plain_is;
           open_is =
               subst (λ h. IsOpen (record o { first = working g false }) (by_event (hand h) now)) (sym handed_is)

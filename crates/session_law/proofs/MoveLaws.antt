@@ -9,16 +9,16 @@ use Rattle.bsp_records.specs.Results.{compile_result_data}
 use Rattle.bsp_records.specs.declared.results.StatusCode.TheVariants as statuses
 use Rattle.serde_json.specs.Data.{Data}
 use Rattle.target_graph.specs.Workspace.{Space}
-use Rattle.session_law.proofs.OpenLaws.{GoOn, GoesOn, apart_without, marked_waiting, others_before, unmarked}
-use Rattle.session_law.proofs.RequestLaws.{HasOther, IsUnmarked}
-use Rattle.session_law.proofs.WriteLaws.{allowed_cancel, allowed_null, allowed_refused_cancel, allowed_refusal, allowed_result, builds_other, is_built, is_telling, left_open, other_active, owed_anywhere, owed_first, owed_up, untelling}
+use Rattle.session_law.proofs.OpenLaws.{GoOn, GoesOn, all_queued, apart_without, due_first, due_last, due_null, marked_waiting, others_before, queued_before, unmarked, waiting_queued}
+use Rattle.session_law.proofs.RequestLaws.{HasOther, IsOfQueue, IsUnmarked}
+use Rattle.session_law.proofs.WriteLaws.{IsFreeBut, allowed_cancel, allowed_null, allowed_refused_cancel, allowed_refusal, allowed_result, builds_other, is_built, is_telling, left_open, other_active, owed_anywhere, owed_first, owed_up, untelling}
 use Rattle.session_law.specs.Builds.{cancelled_said}
 use Rattle.session_law.specs.CancelsForCause.{CancelsAs, call_cancelled, refused_cancelled}
 use Rattle.session_law.specs.History.{Told}
 use Rattle.session_law.specs.IsFramed.{IsFramed}
 use Rattle.session_law.specs.Lawful.{WriteAllowed}
 use Rattle.session_law.specs.Methods.{Call, Found, Verdict, all_found, unknown_at, asking, opening, queued, building, built, rereading, reloading, cleaning, answering, closing, refusal, due_in, found_build, found_from, null_message, request_cancelled, to_build, to_reload, to_clean}
-use Rattle.session_law.specs.Open.{AreApart, First, IsFirst, IsOpen, IsWaiting, Open, Owes, none, owing, working, asking_for}
+use Rattle.session_law.specs.Open.{AreApart, First, IsFirst, IsOneDue, IsOpen, IsUp, IsWaiting, Open, Owes, none, owing, working, asking_for}
 use Rattle.session_law.specs.Order.{write}
 use Rattle.session_law.specs.Past.{Now, by_event, builds_by, cleaned_by, closes, force_by, granted_in}
 use Rattle.session_law.specs.RefusesExactly.{IsGranted, IsRefused}
@@ -79,14 +79,20 @@ module _ (o : Open) (now : Now) (is : IsOpen o now) (id : Id) (number : ℕ) (v 
   last_granted value at_once = ap (λ requests. owed_to id (first_up now.force requests)) whole ∙ owed_anywhere now.force before [] one others at_once
 
   module _ (go : GoOn o) (at_once : due_in now.force v ≡ v) (other : is_telling v ≡ false) where
+    due : (o.nulls ≡ []) × IsUp o.first
+    due = due_last o.first one o.nulls (subst (λ l. IsOneDue o.first l o.nulls) last go.one)
+
+    free : IsFreeBut now before []
+    free = record { earlier = queued_before o now is due.1; later = All-nil IsOfQueue; nulls = is.nulls_are ∙ due.0 }
+
     stands : owed_to id (first_up now.force now.requests) ≡ Some v
     stands = ap (λ requests. owed_to id (first_up now.force requests)) whole ∙ owed_anywhere now.force before [] one others at_once
 
     pub answers_last : (value : Data) → IsGranted (Some v) value → IsFramed (result (Some id) value) → WriteAllowed now (result (Some id) value)
-    answers_last value granted framed = allowed_result now before [] one whole others v (unmarked o now is go) stands value granted other framed
+    answers_last value granted framed = allowed_result now before [] one whole others v free (unmarked o now is go) stands value granted other framed
 
     pub refuses_last : (code : ℤ) (text : List ℕ) → IsRefused (Some v) code text → IsFramed (failure (Some id) code text) → WriteAllowed now (failure (Some id) code text)
-    refuses_last code text refused framed = allowed_refusal now before [] one whole others v (unmarked o now is go) stands code text refused framed
+    refuses_last code text refused framed = allowed_refusal now before [] one whole others v free (unmarked o now is go) stands code text refused framed
 
   -- nothing is cleaned by it
   pub builds_last : (value : Data) → due_in now.force v ≡ v → is_telling v ≡ false → cleaned_by (Some v) now.builds ≡ now.builds
@@ -116,7 +122,9 @@ module _ (o : Open) (now : Now) (is : IsOpen o now) (id : Id) (number : ℕ) (v 
 
 pub answers_null : (o : Open) (now : Now) (is : IsOpen o now) (code : ℤ) (later : List ℤ) → GoOn o → o.nulls ≡ code ∷ later
     → IsFramed (failure None code (null_message code)) → WriteAllowed now (failure None code (null_message code))
-answers_null o now is code later go nulls framed = allowed_null now code later (is.nulls_are ∙ nulls) (unmarked o now is go) framed
+answers_null o now is code later go nulls framed =
+    let due = due_null o.first o.last code later (subst (λ ns. IsOneDue o.first o.last ns) nulls go.one) in
+    allowed_null now code later (is.nulls_are ∙ nulls) (all_queued o now is due.1 due.0) (unmarked o now is go) framed
 
 pub answered_null : (o : Open) (now : Now) (is : IsOpen o now) (code : ℤ) (later : List ℤ) → o.nulls ≡ code ∷ later
     → IsOpen (record o { nulls = later }) (by_event (write (failure None code (null_message code))) now)
@@ -206,14 +214,26 @@ module _ (o : Open) (now : Now) (is : IsOpen o now) (id : Id) (number : ℕ) (v 
         ∙ ap (λ w. cleaned_by w now.builds) (granted_first value)
 
   module _ (go : GoOn o) where
+    due_own : (o.last ≡ []) × (o.nulls ≡ [])
+    due_own = due_first id number v o.last o.nulls (subst (λ f. IsOneDue f o.last o.nulls) first go.one)
+
+    pub queued_behind : All IsOfQueue behind
+    queued_behind = subst (λ l. All IsOfQueue (o.waiting ++ l)) (sym due_own.0) (subst (All IsOfQueue) (sym (append-nil o.waiting)) (waiting_queued o.waiting is.waits))
+
+    pub nothing_null : now.nulls ≡ []
+    nothing_null = is.nulls_are ∙ due_own.1
+
+    free_first : IsFreeBut now [] behind
+    free_first = record { earlier = All-nil IsOfQueue; later = queued_behind; nulls = nothing_null }
+
     pub answers_first : (value : Data) → is_telling v ≡ false → IsGranted (Some v) value → IsFramed (result (Some id) value) → WriteAllowed now (result (Some id) value)
     answers_first value other granted framed =
-        allowed_result now [] behind own at_head none_before v (unmarked o now is go) stands_first value granted
+        allowed_result now [] behind own at_head none_before v free_first (unmarked o now is go) stands_first value granted
         (untelling_judged now.force owes.judged v owes.stands other) framed
 
     pub refuses_first : (code : ℤ) (text : List ℕ) → IsRefused (Some v) code text → IsFramed (failure (Some id) code text) → WriteAllowed now (failure (Some id) code text)
     refuses_first code text refused framed =
-        allowed_refusal now [] behind own at_head none_before v (unmarked o now is go) stands_first code text refused framed
+        allowed_refusal now [] behind own at_head none_before v free_first (unmarked o now is go) stands_first code text refused framed
 
   pub result_first : (value : Data) → IsOpen (record o { first = none }) (by_event (write (result (Some id) value)) now)
   result_first value = closed_first (by_event (write (result (Some id) value)) now) (left_open now [] behind own at_head none_before) refl

@@ -6,12 +6,12 @@ use Rattle.std.proofs.lemmas.List.Kept.{AllPairs-cons}
 use Rattle.rpc_peer.specs.declared.message.Id.{Id}
 use Rattle.rpc_peer.specs.OpenIds.{same_id}
 use Rattle.target_graph.specs.Workspace.{Space}
-use Rattle.session_law.proofs.RequestLaws.{HasOther, IsUnmarked, marked_behind, none_marked}
+use Rattle.session_law.proofs.RequestLaws.{HasOther, IsOfQueue, IsUnmarked, marked_behind, none_marked}
 use Rattle.session_law.specs.Course.{Given}
 use Rattle.session_law.specs.Methods.{Call, Verdict, due_in, queued}
-use Rattle.session_law.specs.Open.{AreApart, First, IsLater, IsFirst, IsOpen, IsWaiting, Open, Owes, none, owing, working, asking_for, working_on}
+use Rattle.session_law.specs.Open.{AreApart, First, IsLater, IsFirst, IsOneDue, IsOpen, IsUp, IsWaiting, Open, Owes, none, owing, working, asking_for, working_on}
 use Rattle.session_law.specs.Past.{Now}
-use Rattle.session_law.specs.Requests.{Active, Asked, active_of, first_marked}
+use Rattle.session_law.specs.Requests.{Active, Asked, active_of, first_marked, is_of_queue}
 
 -- ---- ids that differ
 
@@ -56,6 +56,43 @@ apart_without (first ∷ before) rest asked apart =
     (All-tail (IsLater first) asked rest (all_right (IsLater first) before (asked ∷ rest) later)))
     (apart_without before rest asked (pairs_tail IsLater first (before ++ asked ∷ rest) apart))
 
+-- ---- what is owed at once
+
+pub due_last : (first : First) (asked : Asked) (nulls : List ℤ) → IsOneDue first (asked ∷ []) nulls → (nulls ≡ []) × IsUp first
+due_last first asked [] one = (refl, one)
+due_last first asked (code ∷ nulls) one = absurd one
+
+pub due_null : (first : First) (last : List Asked) (code : ℤ) (nulls : List ℤ) → IsOneDue first last (code ∷ nulls) → (last ≡ []) × IsUp first
+due_null first [] code nulls one = (refl, one)
+due_null first (asked ∷ []) code nulls one = absurd one
+due_null first (asked ∷ next ∷ last) code nulls one = absurd one
+
+pub due_first : (id : Id) (number : ℕ) (v : Verdict) (last : List Asked) (nulls : List ℤ) → IsOneDue (owing id number v) last nulls → (last ≡ []) × (nulls ≡ [])
+due_first id number v [] [] one = (refl, refl)
+due_first id number v [] (code ∷ nulls) one = absurd one
+due_first id number v (asked ∷ []) [] one = absurd one
+due_first id number v (asked ∷ []) (code ∷ nulls) one = absurd one
+due_first id number v (asked ∷ next ∷ last) nulls one = absurd one
+
+-- those that wait are of the queue, and so is a head that is up
+pub waiting_queued : (requests : List Asked) → All IsWaiting requests → All IsOfQueue requests
+waiting_queued [] waits = All-nil IsOfQueue
+waiting_queued (asked ∷ requests) waits =
+    All-cons IsOfQueue asked requests (ap is_of_queue (All-head IsWaiting asked requests waits).is) (waiting_queued requests (All-tail IsWaiting asked requests waits))
+
+head_queued : (first : First) (now : Now) (head : List Asked) → IsUp first → IsFirst first now head → All IsOfQueue head
+head_queued none now head up is = subst (All IsOfQueue) (sym is) (All-nil IsOfQueue)
+head_queued (owing id number v) now head up is = absurd up
+head_queued (working g marked) now head up is = subst (All IsOfQueue) (sym is.0) (All-cons IsOfQueue (working_on g marked) [] refl (All-nil IsOfQueue))
+
+-- those before the one that was taken last
+pub queued_before : (o : Open) (now : Now) (is : IsOpen o now) → IsUp o.first → All IsOfQueue (is.head ++ o.waiting)
+queued_before o now is up = All-append IsOfQueue is.head o.waiting (head_queued o.first now is.head up is.first_is) (waiting_queued o.waiting is.waits)
+
+pub all_queued : (o : Open) (now : Now) (is : IsOpen o now) → IsUp o.first → o.last ≡ [] → All IsOfQueue now.requests
+all_queued o now is up last =
+    subst (All IsOfQueue) (sym (is.requests_are ∙ (ap (λ l. is.head ++ (o.waiting ++ l)) last ∙ ap (λ w. is.head ++ w) (append-nil o.waiting)))) (queued_before o now is up)
+
 -- ---- which of them are to be cancelled
 
 abbrev pub GoesOn : First → Type 0
@@ -70,8 +107,9 @@ first_unmarked (owing id number v) now head goes is =
 first_unmarked (working g marked) now head goes is =
     subst (All IsUnmarked) (sym is.0) (All-cons IsUnmarked (working_on g marked) [] goes (All-nil IsUnmarked))
 
--- no request is to be cancelled
+-- no request is to be cancelled, and at most one thing is owed at once
 pub record GoOn (o : Open) : Type 0 where
+  pub one : IsOneDue o.first o.last o.nulls
   pub first : GoesOn o.first
   pub waiting : All IsUnmarked o.waiting
   pub last : All IsUnmarked o.last

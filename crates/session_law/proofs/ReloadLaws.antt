@@ -12,12 +12,13 @@ use Rattle.rpc_peer.specs.Said.{Said, request, notification, result, failure}
 use Rattle.rpc_peer.specs.OpenIds.{same_id}
 use Rattle.serde_json.specs.Data.{Data, null}
 use Rattle.session_law.proofs.MidLaws.{mid_granted}
-use Rattle.session_law.proofs.MoveLaws.{at_head, owes, stands_first}
+use Rattle.session_law.proofs.MoveLaws.{at_head, nothing_null, owes, queued_behind, stands_first}
 use Rattle.session_law.proofs.OpenLaws.{GoOn, unmarked}
-use Rattle.session_law.proofs.RequestLaws.{same_id_refl}
+use Rattle.session_law.proofs.RequestLaws.{IsOfQueue, none_at_once, same_id_refl}
 use Rattle.session_law.proofs.WorkLaws.{noticed_open}
-use Rattle.session_law.proofs.WriteLaws.{if_so}
+use Rattle.session_law.proofs.WriteLaws.{IsFree, first_free, if_so}
 use Rattle.session_law.proofs.WrittenLaws.{IsNotice, all_noticed, no_response, noticed, one_noticed}
+use Rattle.session_law.specs.AnswersFirst.{first_at_once}
 use Rattle.session_law.specs.Builds.{is_publication, publication_said, table_behind}
 use Rattle.session_law.specs.History.{Told, all_cleaned}
 use Rattle.session_law.specs.IsFramed.{IsFramed}
@@ -110,6 +111,8 @@ reloading_judged force (refusal code text) space file is = is
 pub record Rereads (id : Id) (number : ℕ) (space : Space) (file : Held) (now : Now) : Type 0 where
   pub behind : List Asked
   pub requests_are : now.requests ≡ asking_for id number (reloading space file) ∷ behind
+  pub queued : All IsOfQueue behind
+  pub nulls : now.nulls ≡ []
   pub unmarked : first_marked now.requests ≡ None
 
 rereads : (o : Open) (now : Now) (is : IsOpen o now) (id : Id) (number : ℕ) (space : Space) (file : Held) → o.first ≡ owing id number (reloading space file) → GoOn o → Rereads id number space file now
@@ -120,7 +123,19 @@ rereads o now is id number space file first go =
       requests_are =
           at_head o now is id number (reloading space file) first
           ∙ ap (λ v. asking_for id number v ∷ (o.waiting ++ o.last)) (reloading_judged now.force owed.judged space file owed.stands);
+      queued = queued_behind o now is id number (reloading space file) first go;
+      nulls = nothing_null o now is id number (reloading space file) first go;
       unmarked = unmarked o now is go;
+    }
+
+-- nothing else is owed at once
+free_beside : (id : Id) (number : ℕ) (space : Space) (file : Held) (now : Now) → Rereads id number space file now → IsFree now
+free_beside id number space file now stands =
+    record {
+      requests =
+          ap first_at_once stands.requests_are
+          ∙ none_at_once (asking_for id number (reloading space file) ∷ stands.behind) (All-cons IsOfQueue (asking_for id number (reloading space file)) stands.behind refl stands.queued);
+      nulls = stands.nulls;
     }
 
 -- ---- it tells
@@ -149,6 +164,7 @@ module _ (id : Id) (number : ℕ) (space : Space) (file : Held) (table : Table) 
         once = tt;
         in_builds = subst (λ requests. TellsBy requests now m) (sym so.stands.requests_are) next;
         by_marks = subst (λ o. GoesOnOrCancels o now m) (sym so.stands.unmarked) (record {
+          first = first_free now m (free_beside id number space file now so.stands);
           exact = tt;
           in_order = tt;
           shows = subst (λ a. ShowsFor m a now) (sym none_active) tt;
@@ -167,7 +183,7 @@ module _ (id : Id) (number : ℕ) (space : Space) (file : Held) (table : Table) 
   told_more now done m notice so =
       subst (Reread (done ++ m ∷ [])) (sym (one_noticed m now notice))
       (record {
-        stands = record { behind = so.stands.behind; requests_are = so.stands.requests_are; unmarked = so.stands.unmarked };
+        stands = record { behind = so.stands.behind; requests_are = so.stands.requests_are; queued = so.stands.queued; nulls = so.stands.nulls; unmarked = so.stands.unmarked };
         since = ap (λ d. d ++ m ∷ []) so.since;
         table_is = so.table_is;
       })
@@ -193,6 +209,7 @@ module _ (id : Id) (number : ℕ) (space : Space) (file : Held) (table : Table) 
         once = ap (λ requests. is_open id requests) stands.requests_are ∙ ap (λ b. is_some (if b then Some (reloading space file) else owed_to id stands.behind)) (same_id_refl id);
         in_builds = subst (λ requests. TellsBy requests now m) (sym stands.requests_are) (if_so (same_id id id) (Reloads space file now.table_at_hand now.notices) told);
         by_marks = subst (λ o. GoesOnOrCancels o now m) (sym stands.unmarked) (record {
+          first = first_free now m (free_beside id number space file now stands);
           exact = subst (λ o. IsGranted o null) (sym (stands_first o now is id number (reloading space file) first)) (accepted, refl);
           in_order = subst (AnswersFor m) (sym none_active) tt;
           shows = subst (λ a. ShowsFor m a now) (sym none_active) tt;

@@ -9,6 +9,7 @@ use Rattle.std.specs.Cmp.Lexicographic.{pointwise}
 use Rattle.rpc_peer.specs.declared.message.Id.{Id}
 use Rattle.rpc_peer.specs.declared.message.Id.TheVariants.{Number, Text}
 use Rattle.rpc_peer.specs.OpenIds.{same_id}
+use Rattle.session_law.specs.AnswersFirst.{first_at_once}
 use Rattle.session_law.specs.Methods.{Verdict}
 use Rattle.session_law.specs.Requests.{Asked, all_marked, first_marked, is_of_queue, marked_if, marked_where, owed_to, without}
 
@@ -25,6 +26,29 @@ same_id_refl (Text t) = same_text t
 -- the request has another id
 abbrev pub HasOther : Id → Asked → Type 0
 HasOther id asked = same_id id asked.id ≡ false
+
+-- ---- what is owed at once
+
+abbrev pub IsOfQueue : Asked → Type 0
+IsOfQueue asked = is_of_queue asked.verdict ≡ true
+
+pub none_at_once : (requests : List Asked) → All IsOfQueue requests → first_at_once requests ≡ None
+none_at_once [] all = refl
+none_at_once (asked ∷ others) all =
+    ap (λ b. if b then first_at_once others else Some asked) (All-head IsOfQueue asked others all)
+    ∙ none_at_once others (All-tail IsOfQueue asked others all)
+
+-- where all others are of the queue, nothing is owed at once, or it is owed to this one
+pub one_at_once : (before rest : List Asked) (asked : Asked) → All IsOfQueue before → All IsOfQueue rest → (P : Option Asked → Type 0) → P None → P (Some asked)
+    → P (first_at_once (before ++ asked ∷ rest))
+one_at_once [] rest asked earlier later P nothing own = by (is_of_queue asked.verdict)
+  where
+    by : (b : Bool) → P (if b then first_at_once rest else Some asked)
+    by true = subst P (sym (none_at_once rest later)) nothing
+    by false = own
+one_at_once (first ∷ before) rest asked earlier later P nothing own =
+    subst P (sym (ap (λ b. if b then first_at_once (before ++ asked ∷ rest) else Some first) (All-head IsOfQueue first before earlier)))
+    (one_at_once before rest asked (All-tail IsOfQueue first before earlier) later P nothing own)
 
 -- ---- a request behind others
 

@@ -1,6 +1,6 @@
 -- What is open once a body was taken, once the input ended, and once the tree answered.
 use Rattle.std.proofs.Common.{◌≡◌, ◌≢◌, ◌++◌, ◌||◌, ◌&&◌, ℕ, ℤ, suc, List, [], ◌∷◌, Bool, true, false, All, AllPairs, Option, Some, None, Result, Ok, Err, refl, ap, sym, ◌∙◌, subst, append-nil, append_assoc, true≢false}
-use Rattle.std.specs.Prelude.{if◌then◌else◌, is_some, IfSome}
+use Rattle.std.specs.Prelude.{drop, if◌then◌else◌, is_some, IfSome}
 use Rattle.std.proofs.lemmas.Bool.{false≢true}
 use Rattle.std.proofs.lemmas.List.Elements.{All-append, All-cons, All-head, All-nil, All-tail}
 use Rattle.std.proofs.lemmas.List.Kept.{AllPairs-cons}
@@ -12,14 +12,15 @@ use Rattle.rpc_peer.specs.Said.{Said, request, notification, result, failure}
 use Rattle.serde_json.specs.Data.{Data}
 use Rattle.target_graph.specs.Workspace.{Space}
 use Rattle.session_law.proofs.MoveLaws.{Keeps, owes, same_first}
-use Rattle.session_law.proofs.OpenLaws.{GoOn, GoesOn, apart_push, pairs_head, pairs_tail}
-use Rattle.session_law.proofs.RequestLaws.{HasOther, IsUnmarked, marked-append, marks_none}
+use Rattle.session_law.proofs.OpenLaws.{GoOn, GoesOn, apart_push, pairs_head, pairs_tail, waiting_queued}
+use Rattle.session_law.proofs.RequestLaws.{HasOther, IsUnmarked, marked-append, marks_none, none_at_once}
 use Rattle.session_law.proofs.WriteLaws.{is_built}
 use Rattle.session_law.specs.AnswersAtOnce.{HeadIsUp, IsCaughtUp, MayWait, Waits}
+use Rattle.session_law.specs.AnswersFirst.{OwesNoOther, first_at_once}
 use Rattle.session_law.specs.Course.{AreGiven, Given}
 use Rattle.session_law.specs.Lawful.{AreHeld, HandAllowed}
 use Rattle.session_law.specs.Methods.{Build, Verdict, asking, opening, queued, building, built, rereading, reloading, cleaning, answering, closing, refusal, due_in, verdict}
-use Rattle.session_law.specs.Open.{AreApart, First, IsFirst, IsLater, IsOpen, IsWaiting, Open, Owes, none, owing, working, asking_for, working_on}
+use Rattle.session_law.specs.Open.{AreApart, First, IsFirst, IsLater, IsOpen, IsUp, IsWaiting, Open, Owes, none, owing, working, asking_for, working_on}
 use Rattle.session_law.specs.Order.{take, ends, hand}
 use Rattle.session_law.specs.Past.{Now, by_event, nulls_for, nulls_for_end, standing}
 use Rattle.session_law.specs.Requests.{Asked, IsWanted, WantedBy, Wants, all_marked, cancels, first_up, handed_by, handed_over, is_closing, is_open, joined, marked_if, marked_where, opened_by, owed_to}
@@ -32,12 +33,6 @@ abbrev pub marked_head : (Asked → Bool) → First → First
 marked_head marks none = none
 marked_head marks (owing id number v) = owing id number v
 marked_head marks (working g marked) = working g (marked || marks (working_on g marked))
-
--- the head is up: none, or a build that was handed its documents
-abbrev pub IsUp : First → Type 0
-IsUp none = Unit {0}
-IsUp (owing id number v) = ⊥
-IsUp (working g marked) = Unit {0}
 
 and_true : (b : Bool) → (b && true) ≡ b
 and_true true = refl
@@ -295,9 +290,20 @@ module _ (o : Open) (now : Now) (is : IsOpen o now) (id : Id) (number : ℕ) (v 
       let owed = owes o now is id number v first in
       ap (first_up now.force) (is.requests_are ∙ ap (λ h. h ++ behind) owed.are) ∙ (λ i. asking_for id number (owed.stands i) ∷ behind)
 
-  pub may_hand : (handed : Option Entries) (paths : List (List ℕ)) → Wants v paths → IfSome handed (AreHeld paths) → HandAllowed now handed
-  may_hand handed paths wants held =
-      record { paths = paths; wanted = subst (λ rs. WantedBy rs paths) (sym standing_is) (record { wants = wants; goes_on = refl }); held = held }
+  -- nothing is owed at once to another
+  no_other : o.last ≡ [] → o.nulls ≡ [] → OwesNoOther now
+  no_other last nulls =
+      let owed = owes o now is id number v first in
+      record {
+        requests =
+            ap (λ requests. first_at_once (drop 1 requests)) (is.requests_are ∙ (ap (λ h. h ++ behind) owed.are ∙ ap (λ l. asking_for id number owed.judged ∷ (o.waiting ++ l)) last))
+            ∙ (ap first_at_once (append-nil o.waiting) ∙ none_at_once o.waiting (waiting_queued o.waiting is.waits));
+        nulls = is.nulls_are ∙ nulls;
+      }
+
+  pub may_hand : o.last ≡ [] → o.nulls ≡ [] → (handed : Option Entries) (paths : List (List ℕ)) → Wants v paths → IfSome handed (AreHeld paths) → HandAllowed now handed
+  may_hand last nulls handed paths wants held =
+      record { no_other = no_other last nulls; paths = paths; wanted = subst (λ rs. WantedBy rs paths) (sym standing_is) (record { wants = wants; goes_on = refl }); held = held }
 
   handed_are : (handed : Option Entries) → (by_event (hand handed) now).requests ≡ asking_for id number (handed_over handed v) ∷ behind
   handed_are handed = ap (handed_by handed) standing_is

@@ -10,10 +10,10 @@ use Rattle.rpc_peer.specs.OpenIds.{same_id}
 use Rattle.rpc_peer.specs.Said.{Said, result}
 use Rattle.serde_json.specs.Data.{Data}
 use Rattle.session_law.proofs.MoveLaws.{Keeps, same_first}
-use Rattle.session_law.proofs.OpenLaws.{GoOn, apart_without, is_active, marked_first, unmarked}
-use Rattle.session_law.proofs.RequestLaws.{HasOther, same_id_refl}
-use Rattle.session_law.proofs.WriteLaws.{allowed_build, allowed_cancelled, left_open, owed_first, owed_open}
-use Rattle.session_law.proofs.WrittenLaws.{IsNotice, PublishesOf, Works, all_cancelled, all_noticed, all_told, noticed}
+use Rattle.session_law.proofs.OpenLaws.{GoOn, all_queued, apart_without, is_active, marked_first, unmarked}
+use Rattle.session_law.proofs.RequestLaws.{HasOther, none_at_once, same_id_refl}
+use Rattle.session_law.proofs.WriteLaws.{IsFree, allowed_build, allowed_cancelled, left_open, owed_first, owed_open}
+use Rattle.session_law.proofs.WrittenLaws.{IsNotice, PublishesOf, StartsAnew, Works, all_cancelled, all_noticed, all_told, noticed}
 use Rattle.session_law.specs.Builds.{CleanBuild, Finding, Shows, build_said, build_status, cancelled_said, has_error}
 use Rattle.session_law.specs.Cancelling.{IsCancelledBy}
 use Rattle.session_law.specs.Course.{Given, HasEnded, Tells}
@@ -21,7 +21,7 @@ use Rattle.session_law.specs.History.{Told}
 use Rattle.session_law.specs.IsFramed.{IsFramed}
 use Rattle.session_law.specs.Lawful.{EachAllowed, WriteAllowed}
 use Rattle.session_law.specs.Methods.{built, Build}
-use Rattle.session_law.specs.Open.{AreApart, IsFirst, IsOpen, Open, none, working, working_on}
+use Rattle.session_law.specs.Open.{AreApart, IsFirst, IsOpen, IsUp, Open, none, working, working_on}
 use Rattle.session_law.specs.Order.{Event, onto, write}
 use Rattle.session_law.specs.Past.{Now, after, builds_by, by_event, cleaned_by, granted_in, standing}
 use Rattle.session_law.specs.RefusesExactly.{IsGranted}
@@ -108,20 +108,24 @@ module _ (o : Open) (now : Now) (is : IsOpen o now) (g : Given) (marked : Bool) 
 
 -- ---- the build goes on
 
+-- nothing is owed at once beside it
+free_beside : (o : Open) (now : Now) (is : IsOpen o now) (g : Given) (marked : Bool) → o.first ≡ working g marked → o.last ≡ [] → o.nulls ≡ [] → IsFree now
+free_beside o now is g marked first last nulls = record { requests = none_at_once now.requests (all_queued o now is (subst IsUp (sym first) tt) last); nulls = is.nulls_are ∙ nulls }
+
 -- it tells these messages behind those that it told
-pub build_tells : (o : Open) (order : List Event) (is : IsOpen o (after order)) (g : Given) → o.first ≡ working g false → GoOn o → EachAllowed order
-    → (told own : List Said) → (after order).notices ≡ told → Tells g (told ++ own) → PublishesOf g (told ++ own) → All IsFramed own → All IsNotice own → Wrote o own order
-build_tells o order is g first go each told own since tells publishes framed notices =
+pub build_tells : (o : Open) (order : List Event) (is : IsOpen o (after order)) (g : Given) → o.first ≡ working g false → o.last ≡ [] → o.nulls ≡ [] → GoOn o → EachAllowed order
+    → (told own : List Said) → (after order).notices ≡ told → StartsAnew own → Tells g (told ++ own) → PublishesOf g (told ++ own) → All IsFramed own → All IsNotice own → Wrote o own order
+build_tells o order is g first last nulls go each told own since starts tells publishes framed notices =
     wrote o own order is notices
-    (all_told g.active g (told ++ own) tells publishes own order told each (works o (after order) is g false first) (unmarked o (after order) is go) since framed notices refl)
+    (all_told g.active g (told ++ own) tells publishes own order told each (works o (after order) is g false first) (free_beside o (after order) is g false first last nulls) (unmarked o (after order) is go) since starts framed notices refl)
 
 -- it is answered once it told all
-pub build_answers : (o : Open) (now : Now) (is : IsOpen o now) (g : Given) → o.first ≡ working g false → GoOn o → (ended : HasEnded g now.notices)
+pub build_answers : (o : Open) (now : Now) (is : IsOpen o now) (g : Given) → o.first ≡ working g false → o.last ≡ [] → o.nulls ≡ [] → GoOn o → (ended : HasEnded g now.notices)
     → All (Shows now.table) ended.findings → IsFramed (build_answer g.active.id g.active.build ended.findings) → WriteAllowed now (build_answer g.active.id g.active.build ended.findings)
 unfolding build_said
-build_answers o now is g first go ended shows framed =
+build_answers o now is g first last nulls go ended shows framed =
     let value = compile_result_data (record { origin_id = g.active.build.origin; status_code = build_status (list_any has_error ended.findings) }) in
-    allowed_build now g.active (is_active o now g false is first) (unmarked o now is go) value (there o now is g false first) (granted o now is g false first value)
+    allowed_build now g.active (is_active o now g false is first) (free_beside o now is g false first last nulls) (unmarked o now is go) value (there o now is g false first) (granted o now is g false first value)
     (record { findings = ended.findings; clean = ended.clean; value_is = refl })
     (record { findings = ended.findings; clean = ended.clean; shows = shows })
     (record { given = g; by_build = (works o now is g false first).by_build; ended = ended })

@@ -1,13 +1,14 @@
 -- What each kind of write needs: one lemma for each kind, with one line for each sentence.
 use Rattle.std.proofs.Common.{◌≡◌, ◌++◌, ◌||◌, ◌&&◌, ℕ, ℤ, List, [], ◌∷◌, Bool, true, false, All, Option, Some, None, refl, ap, sym, ◌∙◌, subst, true≢false}
-use Rattle.std.specs.Prelude.{if◌then◌else◌, is_some}
+use Rattle.std.specs.Prelude.{drop, if◌then◌else◌, is_some}
 use Rattle.std.proofs.lemmas.List.Elements.{All-head, All-tail}
 use Rattle.rpc_peer.specs.declared.message.Id.{Id}
 use Rattle.rpc_peer.specs.OpenIds.{same_id}
 use Rattle.rpc_peer.specs.Said.{Said, request, notification, result, failure}
 use Rattle.serde_json.specs.Data.{Data}
 use Rattle.target_graph.specs.Workspace.{Space}
-use Rattle.session_law.proofs.RequestLaws.{HasOther, owed_behind, same_id_refl, without_behind}
+use Rattle.session_law.proofs.RequestLaws.{HasOther, IsOfQueue, none_at_once, one_at_once, owed_behind, same_id_refl, without_behind}
+use Rattle.session_law.specs.AnswersFirst.{AnswersFirst, AnswersIt, AnswersNulls, OwesNoOther, first_at_once}
 use Rattle.session_law.specs.Builds.{build_said, cancelled_said, is_publication}
 use Rattle.session_law.specs.CancelsForCause.{CancelsAs, CancelsForCause, CancelsNext, HasCancelledAll}
 use Rattle.session_law.specs.History.{Told}
@@ -19,7 +20,7 @@ use Rattle.session_law.specs.Past.{Now, builds_by, standing}
 use Rattle.session_law.specs.PublishesInBuildsOnly.{TellsAs, TellsBy}
 use Rattle.session_law.specs.RefusesExactly.{IsGranted, IsRefused}
 use Rattle.session_law.specs.Reloading.{Reloads}
-use Rattle.session_law.specs.Requests.{Active, Asked, active_as, active_of, first_marked, first_up, is_open, owed_to, without}
+use Rattle.session_law.specs.Requests.{Active, Asked, active_as, active_of, first_marked, first_up, is_of_queue, is_open, owed_to, without}
 use Rattle.session_law.specs.ShowsCleanBuild.{PublishesNext, ShowsAll, ShowsFor}
 use Rattle.session_law.specs.ShowsOldOrNew.{ShowsEither, ShowsEitherFor}
 use Rattle.session_law.specs.TakesUpInOrder.{AnswersBuild, AnswersFor}
@@ -35,7 +36,7 @@ if_then : (b : Bool) (A : Type 0) → (b ≡ true → A) → If b A
 if_then true A a = a refl
 if_then false A a = tt
 
-if_not : (b : Bool) (A : Type 0) → b ≡ false → If b A
+pub if_not : (b : Bool) (A : Type 0) → b ≡ false → If b A
 if_not true A other = absurd (true≢false other)
 if_not false A other = tt
 
@@ -219,6 +220,33 @@ owed_up force (first ∷ before) rest asked others P up waits =
     ∙ owed_behind asked.id before rest asked (All-tail (HasOther asked.id) first before others) (same_id_refl asked.id)))
     waits
 
+-- ---- what is owed at once
+
+-- nothing is
+pub record IsFree (now : Now) : Type 0 where
+  pub requests : first_at_once now.requests ≡ None
+  pub nulls : now.nulls ≡ []
+
+pub first_free : (now : Now) (m : Said) → IsFree now → AnswersFirst now m
+first_free now m free =
+    record { requests = subst (λ o. AnswersIt o m) (sym free.requests) tt; nulls = subst (λ ns. AnswersNulls ns m) (sym free.nulls) tt }
+
+-- the first request is of the queue, and no other is owed something at once
+pub free_by : (now : Now) (asked : Asked) (others : List Asked) → now.requests ≡ asked ∷ others → is_of_queue asked.verdict ≡ true → OwesNoOther now → IsFree now
+free_by now asked others are queue no_other =
+    record {
+      requests =
+          ap first_at_once are
+          ∙ (ap (λ b. if b then first_at_once others else Some asked) queue ∙ (ap (λ requests. first_at_once (drop 1 requests)) (sym are) ∙ no_other.requests));
+      nulls = no_other.nulls;
+    }
+
+-- to no other request
+pub record IsFreeBut (now : Now) (before rest : List Asked) : Type 0 where
+  pub earlier : All IsOfQueue before
+  pub later : All IsOfQueue rest
+  pub nulls : now.nulls ≡ []
+
 -- ---- responses to one of the requests that are there
 
 module _ (now : Now) (before rest : List Asked) (asked : Asked) (are : now.requests ≡ before ++ asked ∷ rest) (others : All (HasOther asked.id) before) where
@@ -238,8 +266,15 @@ module _ (now : Now) (before rest : List Asked) (asked : Asked) (are : now.reque
   pub other_active : is_built asked.verdict ≡ false → IsOtherThan asked.id (active_of now.requests)
   other_active other = subst (λ requests. IsOtherThan asked.id (active_of requests)) (sym are) (active_behind before rest asked others other)
 
+  first_own : IsFreeBut now before rest → (m : Said) → AnswersIt (Some asked) m → AnswersFirst now m
+  first_own free m own =
+      record {
+        requests = subst (λ requests. AnswersIt (first_at_once requests) m) (sym are) (one_at_once before rest asked free.earlier free.later (λ o. AnswersIt o m) tt own);
+        nulls = subst (λ ns. AnswersNulls ns m) (sym free.nulls) tt;
+      }
+
   -- no request is to be cancelled
-  module _ (v : Verdict) (unmarked : first_marked now.requests ≡ None) (stands : owed_to asked.id (standing now) ≡ Some v) where
+  module _ (v : Verdict) (free : IsFreeBut now before rest) (unmarked : first_marked now.requests ≡ None) (stands : owed_to asked.id (standing now) ≡ Some v) where
     pub allowed_result : (value : Data) → IsGranted (Some v) value → is_telling asked.verdict ≡ false → IsFramed (result (Some asked.id) value)
         → WriteAllowed now (result (Some asked.id) value)
     allowed_result value granted other framed =
@@ -250,6 +285,7 @@ module _ (now : Now) (before rest : List Asked) (asked : Asked) (are : now.reque
           once = is_open_one;
           in_builds = subst (λ requests. TellsBy requests now m) (sym are) (quiet_result before rest asked now value others other);
           by_marks = subst (λ o. GoesOnOrCancels o now m) (sym unmarked) (record {
+            first = first_own free m (same_id_refl asked.id);
             exact = subst (λ o. IsGranted o value) (sym stands) granted;
             in_order = answers_other asked.id value now (active_of now.requests) apart;
             shows = shows_other asked.id value now (active_of now.requests) apart;
@@ -266,6 +302,7 @@ module _ (now : Now) (before rest : List Asked) (asked : Asked) (are : now.reque
           once = is_open_one;
           in_builds = quiet_failure now.requests now (Some asked.id) code text;
           by_marks = subst (λ o. GoesOnOrCancels o now m) (sym unmarked) (record {
+            first = first_own free m (same_id_refl asked.id);
             exact = subst (λ o. IsRefused o code text) (sym stands) refused;
             in_order = tt;
             shows = tt;
@@ -305,15 +342,19 @@ module _ (now : Now) (before rest : List Asked) (asked : Asked) (are : now.reque
 
 -- ---- the response with the id null
 
-pub allowed_null : (now : Now) (code : ℤ) (others : List ℤ) → now.nulls ≡ code ∷ others → first_marked now.requests ≡ None
+pub allowed_null : (now : Now) (code : ℤ) (others : List ℤ) → now.nulls ≡ code ∷ others → All IsOfQueue now.requests → first_marked now.requests ≡ None
     → IsFramed (failure None code (null_message code)) → WriteAllowed now (failure None code (null_message code))
-allowed_null now code others are unmarked framed =
+allowed_null now code others are all unmarked framed =
     let m = failure None code (null_message code) in
     record {
       framed = framed;
       once = record { first = code; others = others; are = are };
       in_builds = quiet_failure now.requests now None code (null_message code);
       by_marks = subst (λ o. GoesOnOrCancels o now m) (sym unmarked) (record {
+        first = record {
+          requests = subst (λ o. AnswersIt o m) (sym (none_at_once now.requests all)) tt;
+          nulls = subst (λ ns. AnswersNulls ns m) (sym are) tt;
+        };
         exact = rw are (refl, refl);
         in_order = tt;
         shows = tt;
@@ -325,7 +366,7 @@ allowed_null now code others are unmarked framed =
 
 module _ (now : Now) (active : Active) (is_active : active_of now.requests ≡ Some active) where
   -- where no request is to be cancelled
-  module _ (unmarked : first_marked now.requests ≡ None) where
+  module _ (free : IsFree now) (unmarked : first_marked now.requests ≡ None) where
     pub allowed_notice : (method : List ℕ) (params : Option Data) → TellsNext active now (notification method params)
         → (is_publication (notification method params) ≡ true → PublishesNext active now (notification method params)) → IsFramed (notification method params)
         → WriteAllowed now (notification method params)
@@ -336,6 +377,7 @@ module _ (now : Now) (active : Active) (is_active : active_of now.requests ≡ S
           once = tt;
           in_builds = by_build now.requests active now m is_active;
           by_marks = subst (λ o. GoesOnOrCancels o now m) (sym unmarked) (record {
+            first = first_free now m free;
             exact = tt;
             in_order = tt;
             shows = subst (λ a. ShowsFor m a now) (sym is_active) (if_then (is_publication m) (PublishesNext active now m) next);
@@ -352,6 +394,7 @@ module _ (now : Now) (active : Active) (is_active : active_of now.requests ≡ S
           once = there;
           in_builds = by_build now.requests active now m is_active;
           by_marks = subst (λ o. GoesOnOrCancels o now m) (sym unmarked) (record {
+            first = first_free now m free;
             exact = granted;
             in_order = subst (AnswersFor m) (sym is_active) (if_so (same_id active.id active.id) (AnswersBuild active value) answers);
             shows = subst (λ a. ShowsFor m a now) (sym is_active) (if_so (same_id active.id active.id) (ShowsAll active now.table) shows);

@@ -3,8 +3,8 @@ use Rattle.std.proofs.Common.{◌≡◌, ◌||◌, ◌++◌, ℕ, List, [], ◌�
 use Rattle.std.proofs.lemmas.List.Elements.{All-head, All-tail, filter-append}
 use Rattle.rpc_peer.specs.Said.{Said, request, notification, result, failure}
 use Rattle.session_law.proofs.PublishedLaws.{IsOther}
-use Rattle.session_law.proofs.WriteLaws.{allowed_cancels, allowed_notice}
-use Rattle.session_law.specs.Builds.{Finding, IsFindingOf, PublishesSome, is_publication, shown_by, table_behind}
+use Rattle.session_law.proofs.WriteLaws.{IsFree, allowed_cancels, allowed_notice, if_so, if_not}
+use Rattle.session_law.specs.Builds.{Finding, IsFindingOf, PublishesSome, is_later_piece, is_publication, shown_by, table_behind}
 use Rattle.session_law.specs.Cancelling.{IsCancelledBy}
 use Rattle.session_law.specs.CancelsForCause.{CancelsActive, CancelsAs, CancelsNext}
 use Rattle.session_law.specs.Course.{AreGiven, Given, Tells}
@@ -14,7 +14,7 @@ use Rattle.session_law.specs.Methods.{Verdict, asking, opening, queued, building
 use Rattle.session_law.specs.Order.{Event, onto, write}
 use Rattle.session_law.specs.Past.{Now, after, by_event, notice_in}
 use Rattle.session_law.specs.Requests.{Active, Asked, active_as, active_of, first_marked}
-use Rattle.session_law.specs.ShowsCleanBuild.{PublishesNext}
+use Rattle.session_law.specs.ShowsCleanBuild.{IsTogether, PublishesNext}
 use Rattle.session_law.specs.TasksInOrder.{IsGivenBy, TellsNext}
 
 -- the message is a notification
@@ -31,9 +31,14 @@ or_false false = refl
 
 -- ---- what a session is behind notifications
 
+-- what happened last is that a notification was written, behind these
+abbrev pub telling_behind : List Said → Bool → Bool
+telling_behind [] telling = telling
+telling_behind (m ∷ messages) telling = true
+
 -- these were written, and the table is the one that is shown then
 abbrev pub noticed : List Said → Now → Now
-noticed messages now = record now { table = table_behind messages now.table; notices = now.notices ++ messages }
+noticed messages now = record now { table = table_behind messages now.table; notices = now.notices ++ messages; telling = telling_behind messages now.telling }
 
 noticed_none : (now : Now) → now ≡ noticed [] now
 noticed_none now = (λ i. record now { notices = sym (append-nil now.notices) i })
@@ -44,9 +49,13 @@ one_noticed (request id method params) now is = no_response (request id method p
 one_noticed (result id value) now is = no_response (result id value) is
 one_noticed (failure id code text) now is = no_response (failure id code text) is
 
+still_telling : (messages : List Said) → telling_behind messages true ≡ true
+still_telling [] = refl
+still_telling (m ∷ messages) = refl
+
 noticed_more : (m : Said) (messages : List Said) (now : Now) → noticed messages (noticed (m ∷ []) now) ≡ noticed (m ∷ messages) now
 noticed_more m messages now =
-    (λ i. record now { table = table_behind messages (shown_by m now.table); notices = append_assoc now.notices (m ∷ []) messages i })
+    (λ i. record now { table = table_behind messages (shown_by m now.table); notices = append_assoc now.notices (m ∷ []) messages i; telling = still_telling messages i })
 
 pub all_noticed : (messages : List Said) (order : List Event) → All IsNotice messages → after (onto messages order) ≡ noticed messages (after order)
 all_noticed [] order all = noticed_none (after order)
@@ -73,6 +82,24 @@ works_on active g now m is works =
 kept_next : (ms : List Said) (m : Said) → is_publication m ≡ true → filter is_publication (m ∷ ms) ≡ m ∷ filter is_publication ms
 kept_next ms m is = ap (λ b. cond b (m ∷ filter is_publication ms) (filter is_publication ms)) is
 
+-- The first of these messages, if there is one, is no piece behind the first of a list.
+abbrev pub StartsAnew : List Said → Type 0
+StartsAnew [] = Unit {0}
+StartsAnew (m ∷ messages) = is_later_piece m ≡ false
+
+-- the first of these messages goes on with no list, or what happened last is that a notification was written
+abbrev pub GoesOnWith : Now → List Said → Type 0
+GoesOnWith now [] = Unit {0}
+GoesOnWith now (m ∷ messages) = IsTogether now m
+
+anew : (now : Now) (messages : List Said) → StartsAnew messages → GoesOnWith now messages
+anew now [] starts = tt
+anew now (m ∷ messages) starts = if_not (is_later_piece m) (now.telling ≡ true) starts
+
+goes_together : (now : Now) (messages : List Said) → now.telling ≡ true → GoesOnWith now messages
+goes_together now [] telling = tt
+goes_together now (m ∷ messages) telling = if_so (is_later_piece m) (now.telling ≡ true) telling
+
 -- what it publishes among these messages, list after list
 pub record PublishesOf (g : Given) (messages : List Said) : Type 0 where
   pub done : List Finding
@@ -91,8 +118,8 @@ module _ (active : Active) (g : Given) (messages : List Said) (tells : Tells g m
       next = subst (λ d. messages ≡ d ++ m ∷ rest) (sym since) whole;
     }
 
-    publishes_next : is_publication m ≡ true → PublishesNext active now m
-    publishes_next is = record {
+    publishes_next : IsTogether now m → is_publication m ≡ true → PublishesNext active now m
+    publishes_next together is = record {
       done = publishes.done;
       each = subst (λ (a : Active). All (IsFindingOf a.build a.entries) publishes.done) works.by_build.active_is publishes.each;
       published = filter is_publication messages;
@@ -105,34 +132,42 @@ module _ (active : Active) (g : Given) (messages : List Said) (tells : Tells g m
           ∙ (filter-append is_publication done (m ∷ rest)
           ∙ (ap (λ ms. filter is_publication done ++ ms) (kept_next rest m is)
           ∙ ap (λ d. filter is_publication d ++ m ∷ filter is_publication rest) (sym since)));
+      together = together;
     }
 
-  one_told : (order : List Event) (done rest : List Said) (m : Said) → EachAllowed order → Works active g (after order) → first_marked (after order).requests ≡ None
-      → (after order).notices ≡ done → IsFramed m → IsNotice m → messages ≡ done ++ m ∷ rest → EachAllowed (write m ∷ order)
-  one_told order done rest (notification method params) each works unmarked since framed notice whole =
+  one_told : (order : List Event) (done rest : List Said) (m : Said) → EachAllowed order → Works active g (after order) → IsFree (after order) → first_marked (after order).requests ≡ None
+      → (after order).notices ≡ done → IsTogether (after order) m → IsFramed m → IsNotice m → messages ≡ done ++ m ∷ rest → EachAllowed (write m ∷ order)
+  one_told order done rest (notification method params) each works free unmarked since together framed notice whole =
       let m = notification method params in (
-        allowed_notice (after order) active works.is_active unmarked method params (tells_next (after order) done rest m works since whole)
-            (publishes_next (after order) done rest m works since whole) framed,
+        allowed_notice (after order) active works.is_active free unmarked method params (tells_next (after order) done rest m works since whole)
+            (publishes_next (after order) done rest m works since whole together) framed,
         each,
       )
-  one_told order done rest (request id method params) each works unmarked since framed notice whole = no_response (request id method params) notice
-  one_told order done rest (result id value) each works unmarked since framed notice whole = no_response (result id value) notice
-  one_told order done rest (failure id code text) each works unmarked since framed notice whole = no_response (failure id code text) notice
+  one_told order done rest (request id method params) each works free unmarked since together framed notice whole = no_response (request id method params) notice
+  one_told order done rest (result id value) each works free unmarked since together framed notice whole = no_response (result id value) notice
+  one_told order done rest (failure id code text) each works free unmarked since together framed notice whole = no_response (failure id code text) notice
 
   -- it told the first of these messages, and writes the rest
-  pub all_told : (rest : List Said) (order : List Event) (done : List Said) → EachAllowed order → Works active g (after order) → first_marked (after order).requests ≡ None
-      → (after order).notices ≡ done → All IsFramed rest → All IsNotice rest → messages ≡ done ++ rest → EachAllowed (onto rest order)
-  all_told [] order done each works unmarked since framed notices whole = each
-  all_told (m ∷ rest) order done each works unmarked since framed notices whole =
+  all_told_on : (rest : List Said) (order : List Event) (done : List Said) → EachAllowed order → Works active g (after order) → IsFree (after order) → first_marked (after order).requests ≡ None
+      → (after order).notices ≡ done → GoesOnWith (after order) rest → All IsFramed rest → All IsNotice rest → messages ≡ done ++ rest → EachAllowed (onto rest order)
+  all_told_on [] order done each works free unmarked since together framed notices whole = each
+  all_told_on (m ∷ rest) order done each works free unmarked since together framed notices whole =
       let notice : IsNotice m = All-head IsNotice m rest notices in
       let next : after (write m ∷ order) ≡ noticed (m ∷ []) (after order) = one_noticed m (after order) notice in
-      all_told rest (write m ∷ order) (done ++ m ∷ [])
-      (one_told order done rest m each works unmarked since (All-head IsFramed m rest framed) notice whole)
+      all_told_on rest (write m ∷ order) (done ++ m ∷ [])
+      (one_told order done rest m each works free unmarked since together (All-head IsFramed m rest framed) notice whole)
       (works_on active g (after order) m notice works)
+      (subst IsFree (sym next) (record { requests = free.requests; nulls = free.nulls }))
       (ap (λ (now : Now). first_marked now.requests) next ∙ unmarked)
       (ap (λ (now : Now). now.notices) next ∙ ap (λ d. d ++ m ∷ []) since)
+      (goes_together (after (write m ∷ order)) rest (ap (λ (now : Now). now.telling) next))
       (All-tail IsFramed m rest framed) (All-tail IsNotice m rest notices)
       (whole ∙ sym (append_assoc done (m ∷ []) rest))
+
+  -- it told whole lists so far, and writes the rest
+  pub all_told : (rest : List Said) (order : List Event) (done : List Said) → EachAllowed order → Works active g (after order) → IsFree (after order) → first_marked (after order).requests ≡ None
+      → (after order).notices ≡ done → StartsAnew rest → All IsFramed rest → All IsNotice rest → messages ≡ done ++ rest → EachAllowed (onto rest order)
+  all_told rest order done each works free unmarked since starts = all_told_on rest order done each works free unmarked since (anew (after order) rest starts)
 
 -- ---- a build is cancelled
 

@@ -1,5 +1,5 @@
 -- A build: the documents that it is of, what the clean build finds in them, and what is written of that.
-use Rattle.std.specs.Prelude.{◌≡◌, ◌<◌, ◌++◌, Contains, ℕ, List, [], ◌∷◌, map, codes, Bool, true, false, Option, Some, None, if◌then◌else◌}
+use Rattle.std.specs.Prelude.{◌≡◌, ◌<◌, ◌++◌, Contains, ℕ, List, [], ◌∷◌, map, codes, Bool, true, false, not, Option, Some, None, if◌then◌else◌}
 use Rattle.std.specs.List.{All, AllPairs, list_any, fold, slice_get, slice_index_or}
 use Rattle.std.specs.Str.{bytes_eq}
 use Rattle.ob_text.specs.Code.{severity_of}
@@ -163,6 +163,14 @@ pub data PublishesSome (table : Table) (origin : Option (List ℕ)) : List Findi
   none : PublishesSome table origin [] []
   one_more : {done : List Finding} {messages : List Said} (finding : Finding) (own : List Said) → PublishesSome table origin done messages
       → ¬ (Contains done finding) → Publishes (table_behind messages table) origin finding own → PublishesSome table origin (done ++ finding ∷ []) (messages ++ own)
+
+abbrev pub goes_on_in : Option PublishDiagnosticsParams → Bool
+goes_on_in None = false
+goes_on_in (Some p) = not p.reset
+
+-- the message publishes a piece of a list behind the first one
+abbrev pub is_later_piece : Said → Bool
+is_later_piece m = goes_on_in (publication_in m)
 
 -- the message publishes a list, or a piece of one
 abbrev pub is_publication : Said → Bool

@@ -5,6 +5,7 @@ use Rattle.std.specs.List.{All}
 use Rattle.ob_text.specs.Held.{Entries, IsReadable}
 use Rattle.rpc_peer.specs.Said.{Said}
 use Rattle.session_law.specs.AnswersAtOnce.{IsCaughtUp}
+use Rattle.session_law.specs.AnswersFirst.{AnswersFirst, OwesNoOther}
 use Rattle.session_law.specs.AnswersOnce.{AnswersOnce}
 use Rattle.session_law.specs.CancelsForCause.{CancelsForCause}
 use Rattle.session_law.specs.IsFramed.{IsFramed}
@@ -21,6 +22,7 @@ use Rattle.session_law.specs.declared.InputEnd.{InputEnd}
 
 -- where no request is to be cancelled
 pub record GoesOn (now : Now) (m : Said) : Type 0 where
+  pub first : AnswersFirst now m
   pub exact : RefusesExactly now m
   pub in_order : TakesUpInOrder now m
   pub shows : ShowsCleanBuild now m
@@ -57,8 +59,10 @@ pub record AreHeld (paths : List (List ℕ)) (entries : Entries) : Type 0 where
   pub asked : map (λ entry. entry.0) entries ≡ paths
   pub texts : All (λ entry. IsReadable entry.1) entries
 
--- The tree is asked for the first request, where that wants files, once, and for just these.
+-- The tree is asked for the first request, where that wants files and no other is owed something at once, once, and for just
+-- these.
 pub record HandAllowed (now : Now) (handed : Option Entries) : Type 0 where
+  pub no_other : OwesNoOther now
   pub paths : List (List ℕ)
   pub wanted : WantedBy (standing now) paths
   pub held : IfSome handed (AreHeld paths)

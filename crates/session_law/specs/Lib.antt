@@ -1,10 +1,12 @@
 pub mod AnswersAll
 pub mod AnswersAtOnce
+pub mod AnswersFirst
 pub mod AnswersOnce
 pub mod Builds
 pub mod Cancelling
 pub mod CancelsForCause
 pub mod Course
+pub mod EachRests
 pub mod History
 pub mod If
 pub mod IsFramed

@@ -48,6 +48,19 @@ IsFirst none now requests = requests ≡ []
 IsFirst (owing id number v) now requests = Owes now.force id number v requests
 IsFirst (working g marked) now requests = (requests ≡ working_on g marked ∷ []) × IsGivenBy g.active now g
 
+-- it waits for no tree, and isn't to be answered in this step
+abbrev pub IsUp : First → Type 0
+IsUp none = Unit {0}
+IsUp (owing id number v) = ⊥
+IsUp (working g marked) = Unit {0}
+
+-- at most one thing is owed at once: to the head, to what was taken last, or with the id null
+abbrev pub IsOneDue : First → List Asked → List ℤ → Type 0
+IsOneDue first [] [] = Unit {0}
+IsOneDue first [] (code ∷ nulls) = IsUp first
+IsOneDue first (asked ∷ []) [] = IsUp first
+IsOneDue first last nulls = ⊥
+
 -- no two have one id
 abbrev pub IsLater : Asked → Asked → Type 0
 IsLater earlier later = same_id later.id earlier.id ≡ false

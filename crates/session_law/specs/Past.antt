@@ -1,5 +1,5 @@
 -- What a session is behind the events of its order so far: what it owes, has opened, shows and has ended with.
-use Rattle.std.specs.Prelude.{◌||◌, ℕ, ℤ, suc, List, [], ◌∷◌, ◌++◌, codes, Bool, false, Option, Some, None, Result, Ok, Err, drop, if◌then◌else◌}
+use Rattle.std.specs.Prelude.{◌||◌, ℕ, ℤ, suc, List, [], ◌∷◌, ◌++◌, codes, Bool, true, false, Option, Some, None, Result, Ok, Err, drop, if◌then◌else◌}
 use Rattle.bsp_records.specs.Table.{Table, nothing_shown}
 use Rattle.rpc_peer.specs.Meaning.{meaning, invalid_request, parse_error}
 use Rattle.rpc_peer.specs.OpenIds.{same_id}
@@ -73,6 +73,13 @@ notice_in (request id method params) = []
 notice_in (result id value) = []
 notice_in (failure id code text) = []
 
+-- the message is a notification
+abbrev pub is_notice : Said → Bool
+is_notice (notification method params) = true
+is_notice (request id method params) = false
+is_notice (result id value) = false
+is_notice (failure id code text) = false
+
 -- ---- one record, and one step
 
 pub record Now : Type 0 where
@@ -94,6 +101,8 @@ pub record Now : Type 0 where
   pub table_at_hand : Table
   -- the notifications that were written since then, the oldest first
   pub notices : List Said
+  -- what happened last is that a notification was written
+  pub telling : Bool
   -- the builds that were answered with a result, the newest first, each with what it told and what was cleaned since
   pub builds : List Told
 
@@ -109,6 +118,7 @@ at_start =
       table = nothing_shown;
       table_at_hand = nothing_shown;
       notices = [];
+      telling = false;
       builds = [];
     }
 
@@ -127,18 +137,21 @@ by_event (take body) now =
       requests = opened_by (meaning body) (suc now.taken) now.force now.closed now.requests;
       nulls = now.nulls ++ nulls_for (meaning body) now.requests;
       status = exit_status (meaning body) now.closed;
+      telling = false;
     }
 by_event (ends how) now =
     record now {
       requests = all_marked now.requests;
       nulls = now.nulls ++ nulls_for_end how;
       status = Some (end_status how);
+      telling = false;
     }
 by_event (hand handed) now =
     record now {
       requests = handed_by handed (standing now);
       table_at_hand = now.table;
       notices = [];
+      telling = false;
     }
 by_event (write m) now =
     record now {
@@ -148,6 +161,7 @@ by_event (write m) now =
       nulls = nulls_behind m now.nulls;
       table = shown_by m now.table;
       notices = now.notices ++ notice_in m;
+      telling = is_notice m;
       builds = cleaned_by (granted_in m now) (builds_by m (active_of now.requests) now.notices now.builds);
     }
 

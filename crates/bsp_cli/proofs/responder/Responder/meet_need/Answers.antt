@@ -3,8 +3,8 @@ use Rattle.session_core.proofs.Settling.{on_err_any, on_ok_any}
 use Rattle.session_core.specs.State.{Rest}
 use Rattle.session_law.specs.Verdicts.{IsBare}
 use Rattle.worker_pool.specs.Plain.{plain_job}
-use Rattle.bsp_cli.proofs.ShareLaws.{drained_all, may_give, shares_asked, shares_drained, shares_given, shares_hand}
-use Rattle.bsp_cli.proofs.WritingLaws.{steps_none, stopped_so, stops_lost}
+use Rattle.bsp_cli.proofs.ShareLaws.{drained_all, given_leaves, may_give, shares_asked, shares_drained, shares_given, shares_hand}
+use Rattle.bsp_cli.proofs.WritingLaws.{steps_none, stopped_so, stops_kept, stops_lost}
 use Rattle.bsp_cli.proofs.responder.Responder.meet_need.Goals.{in-Err-give, in-Ok-give}
 use Rattle.bsp_cli.proofs.responder.Responder.meet_need.Goals as goal
 
@@ -23,6 +23,9 @@ returns-in-Ok-clause-shares g c =
 
 pub returns-in-Err-ask_tree-clause-same : goal.returns-in-Err-ask_tree-clause-same
 returns-in-Err-ask_tree-clause-same g c = λ other. c.in-Err-ask_tree.ensures.same (λ failed. other (stopped_so _ _ failed))
+
+pub returns-in-Err-ask_tree-clause-stops : goal.returns-in-Err-ask_tree-clause-stops
+returns-in-Err-ask_tree-clause-stops g c = stops_kept IsBare c.args.self.now.core c.next_need.new.self _ _ _ _ c.next_need.ensures.stands c.in-Err-ask_tree.ensures.stops
 
 pub returns-in-Ok-Some-Drain-clause-steps : goal.returns-in-Ok-Some-Drain-clause-steps
 returns-in-Ok-Some-Drain-clause-steps g c = steps_none IsBare c.args.self.now.core c.next_need.new.self _ c.next_need.ensures.stands
@@ -59,6 +62,14 @@ returns-after-give-clause-shares g c =
     let needed = rw (c.in-Ok-Some-Job.field-0-is, c.in-Ok-Some-Job.field-0-0-is) at c.in-Ok-Some-Job.ensures.needed in
     elim c.match-give.branch [
       | in-Ok-give w ↦ on_ok_any c.match-give.result (shares_given _ _ _ _ (plain_job c.in-Ok-Some-Job.job) needed.0 needed.2 needed.3 w.in-Ok-give.ensures c.requires.shares)
+      | in-Err-give w ↦ rw w.result-is tt
+    ]
+
+pub returns-after-give-clause-less : goal.returns-after-give-clause-less
+returns-after-give-clause-less g c =
+    let needed = rw (c.in-Ok-Some-Job.field-0-is, c.in-Ok-Some-Job.field-0-0-is) at c.in-Ok-Some-Job.ensures.needed in
+    elim c.match-give.branch [
+      | in-Ok-give w ↦ on_ok_any c.match-give.result (given_leaves _ _ _ _ (plain_job c.in-Ok-Some-Job.job) needed.0 needed.1 needed.3 w.in-Ok-give.ensures)
       | in-Err-give w ↦ rw w.result-is tt
     ]
 

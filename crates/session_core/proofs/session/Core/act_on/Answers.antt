@@ -13,4 +13,4 @@ returns-clause-ok c =
     (heard old (ready old c.requires.settled c.requires.up c.requires.running c.requires.quiet) c.args.number c.requires.number c.in-Response.id c.in-Response.answer)
 
 pub returns-clause-bare : goal.returns-clause-bare
-returns-clause-bare c = record { is = λ bare. bare }
+returns-clause-bare c = record { is = λ bare. bare; one = λ one. one }

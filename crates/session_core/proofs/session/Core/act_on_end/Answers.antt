@@ -68,13 +68,13 @@ returns-in-Failed-clause-ok c order whole =
 
 pub returns-in-Damaged-clause-bare : goal.returns-in-Damaged-clause-bare
 returns-in-Damaged-clause-bare c =
-    bare_after c.args.self.now c.cancel_all.new.self c.refuse.new.self c.refuse.result (record { is = c.in_ok-cancel_all.ensures.bare.is }) c.refuse.ensures.bare
+    bare_after c.args.self.now c.cancel_all.new.self c.refuse.new.self c.refuse.result (record { is = c.in_ok-cancel_all.ensures.bare.is; one = c.in_ok-cancel_all.ensures.bare.one }) c.refuse.ensures.bare
 
 pub returns-in-Border-clause-bare : goal.returns-in-Border-clause-bare
-returns-in-Border-clause-bare c = record { is = c.in_ok-cancel_all.ensures.bare.is }
+returns-in-Border-clause-bare c = record { is = c.in_ok-cancel_all.ensures.bare.is; one = c.in_ok-cancel_all.ensures.bare.one }
 
 pub returns-in-Failed-clause-bare : goal.returns-in-Failed-clause-bare
-returns-in-Failed-clause-bare c = record { is = c.in_ok-cancel_all.ensures.bare.is }
+returns-in-Failed-clause-bare c = record { is = c.in_ok-cancel_all.ensures.bare.is; one = c.in_ok-cancel_all.ensures.bare.one }
 
 pub returns-in-Damaged-clause-drains : goal.returns-in-Damaged-clause-drains
 returns-in-Damaged-clause-drains c =

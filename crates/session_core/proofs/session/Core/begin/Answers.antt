@@ -19,7 +19,9 @@ pub returns-clause-bare : goal.returns-clause-bare
 returns-clause-bare c =
     let begun = c.in_ok-went.ensures.begun in
     on_ok_weaker c.go_with.result
-    (λ bare. record { is = (bare (told_bare (map outgoing_said c.new-told.result.items) (map outgoing_said c.begin.new.out.items) begun.own (ap (map outgoing_said) c.new-told.ensures.items) begun.tells.are begun.bare)).is })
+    (λ bare.
+    let stays = bare (told_bare (map outgoing_said c.new-told.result.items) (map outgoing_said c.begin.new.out.items) begun.own (ap (map outgoing_said) c.new-told.ensures.items) begun.tells.are begun.bare) in
+    record { is = stays.is; one = stays.one })
     c.go_with.ensures.bare
 
 pub returns-clause-ok : goal.returns-clause-ok

@@ -1,4 +1,5 @@
 use Rattle.std.proofs.lemmas.Result.{on_ok_weaker}
+use Rattle.session_core.proofs.AtRest.{rests_behind}
 use Rattle.session_core.proofs.Bare.{bare_quiet}
 use Rattle.session_core.proofs.Calls.{stands_behind}
 use Rattle.session_core.proofs.Draining.{drains_cancelled}
@@ -10,7 +11,8 @@ use Rattle.session_core.proofs.session.Core.end.Goals as goal
 
 pub returns-clause-stands : goal.returns-clause-stands
 returns-clause-stands c alive order stands =
-    stands_behind c.args.self.now c.take_end-acted.new.self (ends c.args.how) c.take_end-acted.result c.is_err-self.result c.is_err-self.ensures.value c.take_end-acted.ensures.ok c.take_end-acted.ensures.lost alive order stands
+    stands_behind c.args.self.now c.take_end-acted.new.self (ends c.args.how) c.take_end-acted.result c.is_err-self.result c.is_err-self.ensures.value c.take_end-acted.ensures.ok c.take_end-acted.ensures.lost
+    (rests_behind c.args.self.now c.requires.quiet c.requires.up c.requires.settled.behind) alive order stands
 
 pub returns-clause-settled : goal.returns-clause-settled
 returns-clause-settled c = on_ok_weaker c.take_end-acted.result (settled_noting (rest_of c.take_end-acted.new.self) c.is_err-self.result) c.take_end-acted.ensures.settled

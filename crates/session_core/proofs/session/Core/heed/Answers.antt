@@ -68,10 +68,10 @@ returns-in-Some-clause-bare c =
     bare_call c.args.self.now (record c.args.self.now { taken = c.args.number }) c.cancel.new.self c.cancel.result refl c.cancel.ensures.bare
 
 pub returns-in_default-clause-bare : goal.returns-in_default-clause-bare
-returns-in_default-clause-bare c = record { is = λ bare. bare }
+returns-in_default-clause-bare c = record { is = λ bare. bare; one = λ one. one }
 
 pub returns-else-eq-2-clause-bare : goal.returns-else-eq-2-clause-bare
-returns-else-eq-2-clause-bare c = record { is = λ bare. bare }
+returns-else-eq-2-clause-bare c = record { is = λ bare. bare; one = λ one. one }
 
 pub returns-then-eq-clause-drains : goal.returns-then-eq-clause-drains
 returns-then-eq-clause-drains c = on_ok_weaker c.cancel_all.result (λ none. none.stays) c.cancel_all.ensures.rest

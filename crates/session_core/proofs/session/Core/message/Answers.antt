@@ -1,4 +1,5 @@
 use Rattle.std.proofs.lemmas.Result.{on_ok_weaker}
+use Rattle.session_core.proofs.AtRest.{rests_behind}
 use Rattle.session_core.proofs.Bare.{bare_quiet}
 use Rattle.session_core.proofs.Calls.{awaits_stays, back_stays, stands_behind}
 use Rattle.session_core.proofs.Draining.{drains_cancelled}
@@ -10,7 +11,8 @@ use Rattle.session_core.proofs.session.Core.message.Goals as goal
 
 pub returns-clause-stands : goal.returns-clause-stands
 returns-clause-stands c alive order stands =
-    stands_behind c.args.self.now c.act-acted.new.self (take c.args.body.now) c.act-acted.result c.is_err-self.result c.is_err-self.ensures.value c.act-acted.ensures.ok c.act-acted.ensures.lost alive order stands
+    stands_behind c.args.self.now c.act-acted.new.self (take c.args.body.now) c.act-acted.result c.is_err-self.result c.is_err-self.ensures.value c.act-acted.ensures.ok c.act-acted.ensures.lost
+    (rests_behind c.args.self.now c.requires.quiet c.requires.up c.requires.settled.behind) alive order stands
 
 pub returns-clause-settled : goal.returns-clause-settled
 returns-clause-settled c = on_ok_weaker c.act-acted.result (settled_noting (rest_of c.act-acted.new.self) c.is_err-self.result) c.act-acted.ensures.settled

@@ -12,7 +12,7 @@ marked-init c = record {
   texts = c.requires.texts;
   leaves = refl;
   beside = record { head = refl; needs = needs_same c.args.self.now; taken = refl; status = refl; workspace = refl; dead = refl; kept = refl; shown = refl; closed = refl };
-  bare = record { is = λ bare. bare };
+  bare = record { is = λ bare. bare; one = λ one. one };
   notices = λ order. refl;
 }
 
@@ -52,7 +52,10 @@ marked-preserved c =
         shown = ap (λ (core : Core). core.shown) same ∙ before.shown;
         closed = ap (λ (core : Core). core.closed) same ∙ before.closed;
       };
-      bare = record { is = λ bare. c.in_ok-answer_cancelled.ensures.bare.is (c.marked.invariant.bare.is bare) };
+      bare = record {
+        is = λ bare. c.in_ok-answer_cancelled.ensures.bare.is (c.marked.invariant.bare.is bare);
+        one = λ one. c.in_ok-answer_cancelled.ensures.bare.one (c.marked.invariant.bare.one one);
+      };
       notices = λ order. c.in_ok-answer_cancelled.ensures.notices order ∙ c.marked.invariant.notices order;
     }
 
@@ -74,4 +77,4 @@ returns-clause-leaves c =
     c.in_default.ensures.none ∙ (sym (none_marked c.marked.self.queue (sym c.in_default.ensures.first)).1 ∙ c.marked.invariant.leaves)
 
 pub returns-clause-bare : goal.returns-clause-bare
-returns-clause-bare c = record { is = c.marked.invariant.bare.is }
+returns-clause-bare c = record { is = c.marked.invariant.bare.is; one = c.marked.invariant.bare.one }

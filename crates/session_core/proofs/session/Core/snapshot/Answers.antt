@@ -8,7 +8,8 @@ use Rattle.session_core.proofs.session.Core.snapshot.Goals as goal
 
 pub returns-clause-stands : goal.returns-clause-stands
 returns-clause-stands c alive order stands =
-    stands_behind c.args.self.now c.take_hand-acted.new.self (hand (handed_of c.args.got)) c.take_hand-acted.result c.is_err-self.result c.is_err-self.ensures.value c.take_hand-acted.ensures.ok c.take_hand-acted.ensures.lost alive order stands
+    stands_behind c.args.self.now c.take_hand-acted.new.self (hand (handed_of c.args.got)) c.take_hand-acted.result c.is_err-self.result c.is_err-self.ensures.value c.take_hand-acted.ensures.ok c.take_hand-acted.ensures.lost
+    (λ past whole rests. rests) alive order stands
 
 pub returns-clause-settled : goal.returns-clause-settled
 returns-clause-settled c = on_ok_weaker c.take_hand-acted.result (settled_noting (rest_of c.take_hand-acted.new.self) c.is_err-self.result) c.take_hand-acted.ensures.settled

@@ -2,10 +2,14 @@ use Rattle.session_core.proofs.Handed.{hand_lost}
 use Rattle.session_core.proofs.Settling.{on_err_any}
 use Rattle.session_core.specs.State.{handed_of}
 use Rattle.session_core.proofs.Bare.{bare_after}
-use Rattle.std.proofs.Common.{◌∷◌}
+use Rattle.std.proofs.Common.{◌∷◌, refl}
 use Rattle.std.proofs.lemmas.Result.{on_err_weaker}
 use Rattle.session_law.specs.Order.{hand}
 use Rattle.session_core.proofs.session.Core.take_hand.Goals as goal
+
+pub returns-then-self-clause-lost : goal.returns-then-self-clause-lost
+returns-then-self-clause-lost c =
+    hand_lost c.args.self.now c.args.self.now (handed_of c.args.got) c.requires.wanted.paths c.requires.settled c.requires.quiet c.requires.wanted.wanted c.requires.wanted.held refl
 
 pub returns-in_err-act_on_hand-clause-lost : goal.returns-in_err-act_on_hand-clause-lost
 returns-in_err-act_on_hand-clause-lost c =

@@ -1,11 +1,14 @@
-use Rattle.std.proofs.Common.{◌≡◌, ap, subst, sym, ◌∙◌}
+use Rattle.std.proofs.Common.{◌≡◌, inr, ap, subst, sym, ◌∙◌}
 use Rattle.std.proofs.lemmas.Result.{on_err_weaker, on_ok_weaker}
+use Rattle.session_core.proofs.Bare.{went_one}
 use Rattle.session_core.proofs.Continued.{build_rests, check_runs, check_work_is, continued, origin_short, was_head}
 use Rattle.session_core.proofs.Giving.{still_awaited, still_awaits, still_back, went_sound}
 use Rattle.session_core.proofs.Resting.{goes_on}
 use Rattle.session_core.proofs.Settling.{on_ok_both}
 use Rattle.session_core.specs.Building.{GoesOnBy, TookBuild}
+use Rattle.session_core.specs.Standing.{IsQuiet}
 use Rattle.session_core.specs.declared.session.Core.{Core}
+use Rattle.session_law.specs.Verdicts.{FinishesOneFirst}
 use Rattle.worker_pool.specs.Outcomes.{OutcomeParts}
 use Rattle.session_core.specs.Settled.{IsWorkOf}
 use Rattle.worker_pool.specs.Jobs.{check_work, plain_check}
@@ -93,3 +96,14 @@ returns-clause-others c =
     (build_rests old c.take_build.new.self (plain_job c.args.outcome.job) it took c.requires.settled c.requires.back) c.requires.needs (plain_check c.check_of.result)
     (subst (λ (core : Core). GoesOnBy core c.go_on.new.self it (plain_check c.check_of.result)) took.same c.in_ok-go_on.ensures.ok) both.0 c.take_up_next.ensures.beside.jobs both.1 number awaits other)
     (on_ok_both _ _ c.take_up_next.result c.take_up_next.ensures.stays c.take_up_next.ensures.build)
+
+pub returns-clause-one : goal.returns-clause-one
+returns-clause-one c =
+    let old = c.args.self.now in
+    let it = c.in-Some.found in
+    let went = c.in_ok-go_on.ensures.ok in
+    let quiet : IsQuiet c.take_build.new.self = ap (λ (core : Core). core.out.items) c.in-Some.ensures.some.same ∙ c.requires.quiet in
+    let told : FinishesOneFirst went.told = subst FinishesOneFirst (sym went.gone.tells.are) went.gone.one in
+    on_ok_weaker c.take_up_next.result
+    (λ stays. inr (stays.one (went_one (record c.take_build.new.self { kept = c.go_on.new.self.kept; shown = c.go_on.new.self.shown }) c.go_on.new.self it.id it.number it.origin went.went went.told quiet went.goes told)))
+    c.take_up_next.ensures.bare

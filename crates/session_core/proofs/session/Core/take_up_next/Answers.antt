@@ -20,7 +20,7 @@ waiting-init c = record {
   build = inl refl;
   drains = refl;
   no_more = omega arith;
-  bare = record { is = λ bare. bare };
+  bare = record { is = λ bare. bare; one = λ one. one };
   beside = record { taken = refl; status = refl; workspace = refl; closed = refl; dead = refl; jobs = record { jobs = refl; given = refl } };
 }
 
@@ -58,7 +58,7 @@ waiting-preserved c =
       build = stays_taken_up c.args.self.now.head x.head y.head it.build nobody;
       drains = did.drains ∙ it.drains;
       no_more = omega (arith, it.no_more, less);
-      bare = record { is = λ bare. did.bare.is (it.bare.is bare) };
+      bare = record { is = λ bare. did.bare.is (it.bare.is bare); one = λ one. did.bare.one (it.bare.one one) };
       beside = beside_on c.args.self.now (record x { queue = queue }) y
           (record {
             taken = it.beside.taken;
@@ -80,7 +80,7 @@ returns-in_err-take_up-clause-lost c =
     c.in_err-take_up.ensures.err))
 
 pub returns-in_default-clause-bare : goal.returns-in_default-clause-bare
-returns-in_default-clause-bare c = record { is = c.waiting.invariant.bare.is }
+returns-in_default-clause-bare c = record { is = c.waiting.invariant.bare.is; one = c.waiting.invariant.bare.one }
 
 pub returns-clause-bare : goal.returns-clause-bare
-returns-clause-bare c = record { is = c.waiting.invariant.bare.is }
+returns-clause-bare c = record { is = c.waiting.invariant.bare.is; one = c.waiting.invariant.bare.one }
