@@ -4,13 +4,15 @@ use Rattle.std.specs.Prelude.{nat_lt, if◌then◌else◌, slice_get}
 use Rattle.oberon_types.specs.declared.value.Value.{Value}
 use Rattle.oberon_types.specs.declared.value.Value.TheVariants as values
 use Rattle.oberon_types.specs.declared.constant.Op.{Op}
+use Rattle.oberon_types.specs.declared.constant.Op.TheVariants as ops
 use Rattle.oberon_types.specs.Folding.{values_op, value_op}
 use Rattle.oberon_types.specs.Sizes.{size_of}
 use Rattle.oberon_types.specs.Types.{TyTree, byte_ty, char_ty, array_ty, record_ty}
 use Rattle.oberon_rules.specs.Procedures.{is_structured}
+use Rattle.run_rules.specs.declared.trap_kind.TrapKind.{TrapKind}
 use Rattle.run_rules.specs.World.{World, Ran, went, Gives, then_do, At, stuck, ticks, with_cells}
 use Rattle.run_rules.specs.Cells.{Spot, Operand, single, structured, nothing, given_spot, field_spot, field, item, element, contents, given_value, put, is_byte, is_such, fitted, text_of}
-use Rattle.run_rules.specs.Operators.{no_value, or_trap, looked_at, singles, with_texts, operated, no_negative, signed, chosen, truth_alone}
+use Rattle.run_rules.specs.Operators.{whole_trap, trap_or_stuck, no_value, or_trap, looked_at, singles, with_texts, operated, no_negative, signed, chosen, truth_alone}
 use Rattle.run_laws.proofs.Paid.{Paid, Within, paid_same, then_paid, owes_more, ticks_paid}
 
 -- a part that owes nothing where it goes on, and one byte at most where it ends the run
@@ -74,8 +76,12 @@ pub or_trap_pays : (o : Option Value) (other : Gives Operand) (w : World) → Pa
 or_trap_pays (Some v) other w h = paid_same 0 w
 or_trap_pays None other w h = h
 
+trap_or_stuck_pays : (kind : Option TrapKind) (at : At) (w : World) → Pays w (trap_or_stuck kind at w)
+trap_or_stuck_pays None at w = paid_same 1 w
+trap_or_stuck_pays (Some kind) at w = paid_same 1 w
+
 no_value_pays : (o : Op) (x y : Value) (at : At) (w : World) → Pays w (no_value o x y at w)
-no_value_pays o (values.Integer x) (values.Integer y) at w = paid_same 1 w
+no_value_pays o (values.Integer x) (values.Integer y) at w = trap_or_stuck_pays (whole_trap o) at w
 no_value_pays o _ _ at w = paid_same 1 w
 
 singles_pay : (o : Op) (at : At) (x y : Operand) (w : World) → Pays w (singles o at x y w)
@@ -90,12 +96,12 @@ with_texts_pay o at x y None t w = singles_pay o at x y w
 pub operated_pays : (o : Op) (at : At) (x y : Operand) (w : World) → Pays w (operated o at x y w)
 operated_pays o at x y w = with_texts_pay o at x y (text_of x) (text_of y) w
 
-no_negative_pays : (x : Value) (at : At) (w : World) → Pays w (no_negative x at w)
-no_negative_pays (values.Integer x) at w = paid_same 1 w
-no_negative_pays _ at w = paid_same 1 w
+no_negative_pays : (o : Op) (x : Value) (at : At) (w : World) → Pays w (no_negative o x at w)
+no_negative_pays ops.Subtract (values.Integer x) at w = paid_same 1 w
+no_negative_pays o _ at w = paid_same 1 w
 
 pub signed_pays : (o : Op) (at : At) (x : Operand) (w : World) → Pays w (signed o at x w)
-signed_pays o at (single x) w = or_trap_pays (value_op o x) (no_negative x at) w (no_negative_pays x at w)
+signed_pays o at (single x) w = or_trap_pays (value_op o x) (no_negative o x at) w (no_negative_pays o x at w)
 signed_pays o at (structured t vs) w = paid_same 1 w
 signed_pays o at nothing w = paid_same 1 w
 

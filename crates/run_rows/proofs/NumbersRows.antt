@@ -7,7 +7,7 @@ use Rattle.oberon_rules.specs.Scopes.{predeclared}
 use Rattle.run_rules.specs.declared.trap_kind.TrapKind.TheVariants as traps
 use Rattle.run_rules.specs.Runs.{done, trap_at}
 use Rattle.run_rows.specs.Coming.{Runs}
-use Rattle.run_rows.specs.Numbers.{sign_covers_its_term, quotients_round_down, numbers_in_places, inc_and_dec, sum_overflows, sign_overflows, absolute_value_overflows, inc_overflows, step_of_for_overflows, sum_on_the_fourth_line, mod_by_zero, div_by_negative}
+use Rattle.run_rows.specs.Numbers.{sign_covers_its_term, quotients_round_down, numbers_in_places, inc_and_dec, sum_overflows, sign_overflows, absolute_value_overflows, inc_overflows, step_of_for_overflows, sum_on_the_fourth_line, mod_by_zero, div_by_negative, not_of_a_number, slash_between_numbers}
 
 pub sign_covers_its_term_row : Runs (sign_covers_its_term ∷ []) (codes "A") 1000000 done (codes "  -3x\ny") 9
 unfolding predeclared digits folding_function spelling symbol_text
@@ -56,3 +56,11 @@ mod_by_zero_row = (refl, refl)
 pub div_by_negative_row : Runs (div_by_negative ∷ []) (codes "A") 1000000 (trap_at traps.Division (codes "A") (record { line = 0; character = 60 })) [] 3
 unfolding predeclared digits folding_function spelling symbol_text
 div_by_negative_row = (refl, refl)
+
+pub not_of_a_number_row : Runs (not_of_a_number ∷ []) (codes "A") 1000000 (trap_at traps.Stuck (codes "A") (record { line = 0; character = 0 })) [] 2
+unfolding predeclared digits folding_function spelling symbol_text
+not_of_a_number_row = (refl, refl)
+
+pub slash_between_numbers_row : Runs (slash_between_numbers ∷ []) (codes "A") 1000000 (trap_at traps.Stuck (codes "A") (record { line = 0; character = 0 })) [] 2
+unfolding predeclared digits folding_function spelling symbol_text
+slash_between_numbers_row = (refl, refl)

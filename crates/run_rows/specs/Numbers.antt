@@ -1,10 +1,10 @@
--- Small modules, with their texts and their trees, that show what sums, quotients and numbers in places come to, and the traps of overflow and division.
+-- Small modules, with their texts and their trees, that show what sums, quotients and numbers in places come to, the traps of overflow and division, and operators that don't fit.
 use Rattle.std.specs.Prelude.{codes, [], ◌∷◌, None, Some, pos, negsuc}
 use Rattle.oberon_tree.specs.declared.expression.Relator.TheVariants as relators
 use Rattle.oberon_tree.specs.declared.expression.Sign.TheVariants as signs
 use Rattle.oberon_tree.specs.declared.expression.AddOperator.TheVariants as adds
 use Rattle.oberon_tree.specs.declared.expression.MulOperator.TheVariants as muls
-use Rattle.oberon_tree.specs.Trees.{no_relation, relation_of, expr_of, simple_of, no_addends, more_addends, term_of, no_multipliers, more_multipliers, designator_factor, group_factor, designator_of, no_selectors, more_selectors, field_selector, call_selector, no_arguments, some_arguments, exprs_of, no_more_exprs, more_exprs, named_type, no_step, statements_of, no_more_statements, more_statements, empty_statement, assign_statement, call_statement, if_statement, for_statement, if_of, guarded_of, no_elsifs, no_else, for_of}
+use Rattle.oberon_tree.specs.Trees.{no_relation, relation_of, expr_of, simple_of, no_addends, more_addends, term_of, no_multipliers, more_multipliers, designator_factor, group_factor, negation_factor, designator_of, no_selectors, more_selectors, field_selector, call_selector, no_arguments, some_arguments, exprs_of, no_more_exprs, more_exprs, named_type, no_step, statements_of, no_more_statements, more_statements, empty_statement, assign_statement, call_statement, if_statement, for_statement, if_of, guarded_of, no_elsifs, no_else, for_of}
 use Rattle.run_rules.specs.Linked.{Source}
 use Rattle.run_rows.specs.Parts.{at, ident, own, named, just, plain, alone, number, string, name}
 
@@ -635,5 +635,75 @@ div_by_negative = record {
         end = (at 82 85);
         end_name = (ident 86 (codes "A"));
         period = (at 87 88);
+      };
+}
+
+abbrev pub not_of_a_number : Source
+not_of_a_number = record {
+  stem = codes "A";
+  text = codes "MODULE A; VAR b: BOOLEAN; BEGIN b := ~5 END A.";
+  tree =
+      record {
+        word = (at 0 6);
+        name = (ident 7 (codes "A"));
+        semicolon = (at 8 9);
+        imports = None;
+        declarations = (record {
+          constants = None;
+          types = None;
+          variables = (Some (record {
+            word = (at 10 13);
+            items = ((record {
+              names = (record { first = (own (ident 14 (codes "b"))); rest = [] });
+              colon = (at 15 16);
+              of_type = (named_type (named (ident 17 (codes "BOOLEAN"))));
+              semicolon = (at 24 25);
+            }) ∷ []);
+          }));
+        });
+        procedures = [];
+        body = (Some (record {
+          word = (at 26 31);
+          statements = (statements_of (assign_statement (designator_of (ident 32 (codes "b")) no_selectors) (at 34 36) (alone (negation_factor (at 37 38) (number 38
+              39 (pos 5))))) no_more_statements);
+        }));
+        end = (at 40 43);
+        end_name = (ident 44 (codes "A"));
+        period = (at 45 46);
+      };
+}
+
+abbrev pub slash_between_numbers : Source
+slash_between_numbers = record {
+  stem = codes "A";
+  text = codes "MODULE A; VAR i: INTEGER; BEGIN i := 1 / 2 END A.";
+  tree =
+      record {
+        word = (at 0 6);
+        name = (ident 7 (codes "A"));
+        semicolon = (at 8 9);
+        imports = None;
+        declarations = (record {
+          constants = None;
+          types = None;
+          variables = (Some (record {
+            word = (at 10 13);
+            items = ((record {
+              names = (record { first = (own (ident 14 (codes "i"))); rest = [] });
+              colon = (at 15 16);
+              of_type = (named_type (named (ident 17 (codes "INTEGER"))));
+              semicolon = (at 24 25);
+            }) ∷ []);
+          }));
+        });
+        procedures = [];
+        body = (Some (record {
+          word = (at 26 31);
+          statements = (statements_of (assign_statement (designator_of (ident 32 (codes "i")) no_selectors) (at 34 36) (expr_of (simple_of None (term_of (number 37
+              38 (pos 1)) (more_multipliers muls.Divide (at 39 40) (number 41 42 (pos 2)) no_multipliers)) no_addends) no_relation)) no_more_statements);
+        }));
+        end = (at 43 46);
+        end_name = (ident 47 (codes "A"));
+        period = (at 48 49);
       };
 }

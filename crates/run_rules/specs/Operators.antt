@@ -11,14 +11,22 @@ use Rattle.run_rules.specs.declared.trap_kind.TrapKind.TheVariants as traps
 use Rattle.run_rules.specs.World.{went, Gives, then_do, At, trap, stuck, ticks}
 use Rattle.run_rules.specs.Cells.{Operand, single, text_of}
 
-abbrev pub whole_trap : Op → TrapKind
-whole_trap ops.Div = traps.Division
-whole_trap ops.Mod = traps.Division
-whole_trap _ = traps.Overflow
+-- the trap of an operator between whole numbers that gives none; of one that isn't between numbers there is none
+abbrev pub whole_trap : Op → Option TrapKind
+whole_trap ops.Add = Some traps.Overflow
+whole_trap ops.Subtract = Some traps.Overflow
+whole_trap ops.Multiply = Some traps.Overflow
+whole_trap ops.Div = Some traps.Division
+whole_trap ops.Mod = Some traps.Division
+whole_trap _ = None
+
+abbrev pub trap_or_stuck : Option TrapKind → At → Gives Operand
+trap_or_stuck None at w = stuck w
+trap_or_stuck (Some kind) at w = trap kind at w
 
 -- numbers alone trap
 abbrev pub no_value : Op → Value → Value → At → Gives Operand
-no_value o (values.Integer x) (values.Integer y) at w = trap (whole_trap o) at w
+no_value o (values.Integer x) (values.Integer y) at w = trap_or_stuck (whole_trap o) at w
 no_value o _ _ at w = stuck w
 
 abbrev pub or_trap : Option Value → Gives Operand → Gives Operand
@@ -44,13 +52,13 @@ with_texts o at x y _ _ w = singles o at x y w
 abbrev pub operated : Op → At → Operand → Operand → Gives Operand
 operated o at x y w = with_texts o at x y (text_of x) (text_of y) w
 
--- a sign
-abbrev pub no_negative : Value → At → Gives Operand
-no_negative (values.Integer x) at w = trap traps.Overflow at w
-no_negative _ at w = stuck w
+-- a sign, or `~`: a negative number may be outside 32 bits
+abbrev pub no_negative : Op → Value → At → Gives Operand
+no_negative ops.Subtract (values.Integer x) at w = trap traps.Overflow at w
+no_negative o _ at w = stuck w
 
 abbrev pub signed : Op → At → Operand → Gives Operand
-signed o at (single x) w = or_trap (value_op o x) (no_negative x at) w
+signed o at (single x) w = or_trap (value_op o x) (no_negative o x at) w
 signed o at _ w = stuck w
 
 -- one of two ways to go on

@@ -1,4 +1,4 @@
-use Rattle.run_rows.proofs.NumbersRows.{sign_covers_its_term_row, quotients_round_down_row, numbers_in_places_row, inc_and_dec_row, sum_overflows_row, sign_overflows_row, absolute_value_overflows_row, inc_overflows_row, step_of_for_overflows_row, sum_on_the_fourth_line_row, mod_by_zero_row, div_by_negative_row}
+use Rattle.run_rows.proofs.NumbersRows.{sign_covers_its_term_row, quotients_round_down_row, numbers_in_places_row, inc_and_dec_row, sum_overflows_row, sign_overflows_row, absolute_value_overflows_row, inc_overflows_row, step_of_for_overflows_row, sum_on_the_fourth_line_row, mod_by_zero_row, div_by_negative_row, not_of_a_number_row, slash_between_numbers_row}
 use Rattle.run_rows.proofs.numbers.numbers_come_to.Goals as goal
 
 pub returns-clause-sign_covers_its_term : goal.returns-clause-sign_covers_its_term
@@ -36,3 +36,9 @@ returns-clause-mod_by_zero c = mod_by_zero_row
 
 pub returns-clause-div_by_negative : goal.returns-clause-div_by_negative
 returns-clause-div_by_negative c = div_by_negative_row
+
+pub returns-clause-not_of_a_number : goal.returns-clause-not_of_a_number
+returns-clause-not_of_a_number c = not_of_a_number_row
+
+pub returns-clause-slash_between_numbers : goal.returns-clause-slash_between_numbers
+returns-clause-slash_between_numbers c = slash_between_numbers_row
