@@ -1,0 +1,4 @@
+use Rattle.recordings.proofs.spelling.in_into.Goals as goal
+
+pub returns-clause-ok : goal.returns-clause-ok
+returns-clause-ok c = c.spell.ensures.ok
